@@ -1,0 +1,7 @@
+pub mod Tests
+pub mod Bytes
+pub mod Members
+pub mod Validity
+pub mod Lanes
+pub mod Promise
+mod Examples

@@ -1,0 +1,223 @@
+-- Station sets by their members.
+use mathlib.Core.Path.{_≡_, refl, sym, ap, _∙_}
+use mathlib.Core.Bool.{Bool, true, false, not, cond, _&&_, _||_, and-true, and-false}
+use Prim.Native.Nat.{ℕ, zero, suc, _+_, _-_, _*_, _/_, _%_, _^_, _≤_, _<_, min, max}
+use native.Mathlib.Nat.{div-one, zero-div, min-eq-left, min-eq-right, one-mul, mod-eq-of-lt, le-of-lt}
+use native.Mathlib.Numerals.{one-add}
+use native.Mathlib.Omega.{arith}
+use lib.Dec.{ltb, leb, eqb, leb·suc-suc, eqb·suc-suc, eqb·zero-suc, eqb·suc-zero}
+use lib.Arith.{bin-ind, digits-div, digits-mod}
+use lib.Pow.{shr-shr, pow-pos, pow-lt, pow-mono}
+use lib.Bits.{bitAnd, bitOr, and-step, or-step, and-le-l, and-lt, or-lt, and-zero-l, and-zero-r}
+use borrow.Author.Tests.{ltb-true, ltb-false, lt-ltb, le-ltb, eqb-true, eqb-false, eq-eqb, ne-eqb, not-true, not-false}
+use Rattle.quorum.specs.Sets.{member, used, holds, shares, within, join, remove, full}
+use Rattle.quorum.proofs.Tests.{same-test, and-left, and-right, and-both, by-cases, clash}
+
+-- ---- station 0, and the stations above it
+pub member-zero : (a : ℕ) → member a 0 ≡ eqb (a % 2) 1
+unfolding member
+member-zero a = rw div-one
+
+pub member-suc : (a i : ℕ) → member a (suc i) ≡ member (a / 2) i
+unfolding member
+member-suc a i = rw (← one-add i, ← shr-shr a 1 i)
+
+pub member-empty : (i : ℕ) → member 0 i ≡ false
+unfolding member
+member-empty i = rw zero-div
+
+-- ---- sets that are made digit by digit
+-- a digit is 0 or 1
+digit : (P : ℕ → Type 0) (d : ℕ) → d < 2 → P 0 → P 1 → P d
+digit P zero l p q = p
+digit P (suc zero) l p q = q
+digit P (suc (suc d)) l p q = absurd (omega arith)
+
+-- what an operation does to each digit, by f on numbers and by g on tests
+record Digitwise (op f : ℕ → ℕ → ℕ) (g : Bool → Bool → Bool) : Type 0 where
+  step : (a b : ℕ) → op a b ≡ op (a / 2) (b / 2) * 2 + f (a % 2) (b % 2)
+  table : (x y : ℕ) → x < 2 → y < 2 → (f x y < 2) × (eqb (f x y) 1 ≡ g (eqb x 1) (eqb y 1))
+
+-- the members of the result, by those of the two sets
+member-op : (op f : ℕ → ℕ → ℕ) (g : Bool → Bool → Bool) → Digitwise op f g → (i a b : ℕ) → member (op a b) i ≡ g (member a i) (member b i)
+member-op op f g d zero a b =
+    let t = d .table (a % 2) (b % 2) (omega arith) (omega arith) in
+    rw (member-zero (op a b), member-zero a, member-zero b, d .step a b, digits-mod (op (a / 2) (b / 2)) (t .0)) (t .1)
+member-op op f g d (suc i) a b =
+    let t = d .table (a % 2) (b % 2) (omega arith) (omega arith) in
+    rw (member-suc (op a b), member-suc a, member-suc b, d .step a b, digits-div (op (a / 2) (b / 2)) (t .0)) (member-op op f g d i (a / 2) (b / 2))
+
+and-digits : Digitwise bitAnd min _&&_
+and-digits =
+    record {
+      step = and-step;
+      table = λ x y p q. (
+        omega arith,
+        digit (λ (x : ℕ). eqb (min x y) 1 ≡ (eqb x 1 && eqb y 1)) x p
+            (digit (λ (y : ℕ). eqb (min 0 y) 1 ≡ (eqb 0 1 && eqb y 1)) y q refl refl)
+            (digit (λ (y : ℕ). eqb (min 1 y) 1 ≡ (eqb 1 1 && eqb y 1)) y q refl refl),
+      );
+    }
+
+or-digits : Digitwise bitOr max _||_
+or-digits =
+    record {
+      step = or-step;
+      table = λ x y p q. (
+        omega arith,
+        digit (λ (x : ℕ). eqb (max x y) 1 ≡ (eqb x 1 || eqb y 1)) x p
+            (digit (λ (y : ℕ). eqb (max 0 y) 1 ≡ (eqb 0 1 || eqb y 1)) y q refl refl)
+            (digit (λ (y : ℕ). eqb (max 1 y) 1 ≡ (eqb 1 1 || eqb y 1)) y q refl refl),
+      );
+    }
+
+pub member-and : (i a b : ℕ) → member (bitAnd a b) i ≡ (member a i && member b i)
+member-and = member-op bitAnd min _&&_ and-digits
+
+pub member-or : (i a b : ℕ) → member (bitOr a b) i ≡ (member a i || member b i)
+member-or = member-op bitOr max _||_ or-digits
+
+-- the set of one station
+pub member-one : (i k : ℕ) → member (2 ^ k) i ≡ eqb i k
+member-one zero zero = rw member-zero
+member-one zero (suc k) = rw (member-zero, eqb·zero-suc k) (ne-eqb (2 ^ suc k % 2) 1 (λ e. omega arith))
+member-one (suc i) zero = rw (member-suc, eqb·suc-zero i) (member-empty i)
+member-one (suc i) (suc k) = let h : 2 ^ suc k / 2 ≡ 2 ^ k = omega arith in rw (member-suc, h, eqb·suc-suc i k) (member-one i k)
+
+-- the set without a station, digit by digit
+remove-zero : (a : ℕ) → (remove a 0 / 2 ≡ a / 2) × (remove a 0 % 2 ≡ 0)
+unfolding remove
+remove-zero a = let h : bitAnd a 1 ≡ a % 2 = omega (arith, and-step a 1, and-zero-r (a / 2)) in rw h (omega arith)
+
+remove-suc : (a k : ℕ) → (remove a (suc k) / 2 ≡ remove (a / 2) k) × (remove a (suc k) % 2 ≡ a % 2)
+unfolding remove
+remove-suc a k =
+    let half : 2 ^ suc k / 2 ≡ 2 ^ k = omega arith in
+    let h : bitAnd a (2 ^ suc k) ≡ bitAnd (a / 2) (2 ^ k) * 2 + min (a % 2) (2 ^ suc k % 2) = rw half at (and-step a (2 ^ suc k)) in
+    let l = and-le-l (a / 2) (2 ^ k) in
+    omega arith
+
+pub member-remove : (i k a : ℕ) → member (remove a k) i ≡ (member a i && not (eqb i k))
+member-remove zero zero a = rw (member-zero (remove a 0), remove-zero a .1, and-false)
+member-remove zero (suc k) a = rw (member-zero (remove a (suc k)), remove-suc a k .1, eqb·zero-suc k, and-true, member-zero a)
+member-remove (suc i) zero a = rw (member-suc (remove a 0), remove-zero a .0, eqb·suc-zero i, and-true, member-suc a)
+member-remove (suc i) (suc k) a =
+    rw (member-suc (remove a (suc k)), remove-suc a k .0, eqb·suc-suc i k, member-suc a) (member-remove i k (a / 2))
+
+-- ---- from the members to the set
+-- a set that has no member is empty
+has-member : (a : ℕ) → (a ≡ 0 → ⊥) → (i : ℕ) × (member a i ≡ true)
+has-member = bin-ind (λ (a : ℕ). (a ≡ 0 → ⊥) → (i : ℕ) × (member a i ≡ true)) (λ h. absurd (h refl)) step
+  where
+    step : (a : ℕ) → ((a / 2 ≡ 0 → ⊥) → (i : ℕ) × (member (a / 2) i ≡ true)) → (a ≡ 0 → ⊥) → (i : ℕ) × (member a i ≡ true)
+    step a ih h =
+        by-cases (λ (b : Bool). eqb (a % 2) 1 ≡ b → (i : ℕ) × (member a i ≡ true)) (eqb (a % 2) 1)
+        (λ _ e. (0, member-zero a ∙ e))
+        (λ _ e. let q : a % 2 ≡ 1 → ⊥ = eqb-false _ _ e in let r = ih (λ z. h (omega arith)) in (suc (r .0), member-suc a (r .0) ∙ r .1)) refl
+
+same-digit : (x y : ℕ) → x < 2 → y < 2 → eqb x 1 ≡ eqb y 1 → x ≡ y
+same-digit x y p q e =
+    by-cases (λ (b : Bool). eqb y 1 ≡ b → x ≡ y) (eqb y 1) (λ _ h. eqb-true x 1 (e ∙ h) ∙ sym (eqb-true y 1 h))
+    (λ _ h. let f : x ≡ 1 → ⊥ = eqb-false x 1 (e ∙ h) in let g : y ≡ 1 → ⊥ = eqb-false y 1 h in omega arith) refl
+
+-- sets with the same members are equal
+pub same-members : (a b : ℕ) → ((i : ℕ) → member a i ≡ member b i) → a ≡ b
+same-members = bin-ind (λ (a : ℕ). (b : ℕ) → ((i : ℕ) → member a i ≡ member b i) → a ≡ b) none step
+  where
+    none : (b : ℕ) → ((i : ℕ) → member 0 i ≡ member b i) → 0 ≡ b
+    none b h =
+        by-cases (λ (t : Bool). eqb b 0 ≡ t → 0 ≡ b) (eqb b 0) (λ _ e. sym (eqb-true _ _ e))
+        (λ _ e. let r = has-member b (eqb-false _ _ e) in clash (r .1) (sym (h (r .0)) ∙ member-empty (r .0))) refl
+
+    step : (a : ℕ) → ((b : ℕ) → ((i : ℕ) → member (a / 2) i ≡ member b i) → a / 2 ≡ b) → (b : ℕ) → ((i : ℕ) → member a i ≡ member b i) → a ≡ b
+    step a ih b h =
+        let half : a / 2 ≡ b / 2 = ih (b / 2) (λ i. sym (member-suc a i) ∙ h (suc i) ∙ member-suc b i) in
+        let low : eqb (a % 2) 1 ≡ eqb (b % 2) 1 = sym (member-zero a) ∙ h 0 ∙ member-zero b in
+        let d : a % 2 ≡ b % 2 = same-digit (a % 2) (b % 2) (omega arith) (omega arith) low in
+        omega arith
+
+-- a set below 2 ^ n has members below n only
+pub within-member : (i n a : ℕ) → a < 2 ^ n → member a i ≡ true → i < n
+within-member zero zero a l e = let h : a ≡ 0 = omega arith in clash e (rw h (member-empty 0))
+within-member zero (suc n) a l e = omega arith
+within-member (suc i) zero a l e = let h : a ≡ 0 = omega arith in clash e (rw h (member-empty (suc i)))
+within-member (suc i) (suc n) a l e =
+    let h : a / 2 < 2 ^ n = omega arith in let r = within-member i n (a / 2) h (sym (member-suc a i) ∙ e) in omega arith
+
+-- ---- the tests on sets, by members
+pub holds-member : (a b : ℕ) → holds a b ≡ true → (i : ℕ) → member b i ≡ true → member a i ≡ true
+unfolding holds
+holds-member a b e i h = and-left (member a i) (member b i) (sym (member-and i a b) ∙ ap (λ x. member x i) (eqb-true _ _ e) ∙ h)
+
+pub member-holds : (a b : ℕ) → ((i : ℕ) → member b i ≡ true → member a i ≡ true) → holds a b ≡ true
+unfolding holds
+member-holds a b h =
+    eq-eqb _ _ (same-members _ _ (λ i. member-and i a b ∙ same-test _ _ (and-right (member a i) (member b i)) (λ e. and-both _ _ (h i e) e)))
+
+pub shares-member : (a b : ℕ) → shares a b ≡ true → (i : ℕ) × (member a i ≡ true) × (member b i ≡ true)
+unfolding shares
+shares-member a b e =
+    let r = has-member (bitAnd a b) (eqb-false _ _ (not-true _ e)) in
+    let h : (member a (r .0) && member b (r .0)) ≡ true = sym (member-and (r .0) a b) ∙ r .1 in
+    (r .0, and-left _ _ h, and-right (member a (r .0)) _ h)
+
+pub member-shares : (a b i : ℕ) → member a i ≡ true → member b i ≡ true → shares a b ≡ true
+unfolding shares
+member-shares a b i p q =
+    by-cases (λ (t : Bool). eqb (bitAnd a b) 0 ≡ t → not t ≡ true) (eqb (bitAnd a b) 0)
+    (λ _ e. clash (member-and i a b ∙ and-both _ _ p q) (ap (λ x. member x i) (eqb-true _ _ e) ∙ member-empty i)) (λ _ _. refl) refl
+
+pub used-member : (a : ℕ) → used a ≡ true → (i : ℕ) × (member a i ≡ true)
+unfolding used
+used-member a e = has-member a (eqb-false _ _ (not-true _ e))
+
+pub member-join : (a i k : ℕ) → k < 16 → member (join a k) i ≡ (member a i || eqb i k)
+unfolding join
+member-join a i k l = rw (lt-ltb _ _ l, member-or i a (2 ^ k), member-one i k)
+
+pub member-full : (n i : ℕ) → n ≤ 16 → member (full n) i ≡ ltb i n
+unfolding full
+member-full n i l = rw (min-eq-left l) (go n i)
+  where
+    go : (n i : ℕ) → member (2 ^ n - 1) i ≡ ltb i n
+    go zero i = rw (le-ltb i 0 (omega arith)) (member-empty i)
+    go (suc n) zero = rw (member-zero (2 ^ suc n - 1), lt-ltb 0 (suc n) (omega arith)) (eq-eqb ((2 ^ suc n - 1) % 2) 1 (omega (arith, pow-pos n)))
+    go (suc n) (suc i) =
+        let h : (2 ^ suc n - 1) / 2 ≡ 2 ^ n - 1 = omega (arith, pow-pos n) in
+        rw (member-suc (2 ^ suc n - 1), h, leb·suc-suc (suc i) n) (go n i)
+
+-- ---- the stations below n
+pub within-join : (n a k : ℕ) → n ≤ 16 → within n a ≡ true → k < n → within n (join a k) ≡ true
+unfolding within join
+within-join n a k l e h =
+    let q : k < 16 = omega arith in rw (lt-ltb _ _ q) (lt-ltb _ _ (or-lt n a (2 ^ k) (ltb-true _ _ e) (pow-lt h)))
+
+pub within-remove : (n a k : ℕ) → within n a ≡ true → within n (remove a k) ≡ true
+unfolding within remove
+within-remove n a k e = lt-ltb (a - bitAnd a (2 ^ k)) (2 ^ n) (omega (arith, ltb-true a (2 ^ n) e))
+
+-- ---- sets of 16 bits, as the code has them
+pub one-shl : (k w : ℕ) → k < w → (1 * 2 ^ k) % 2 ^ w ≡ 2 ^ k
+one-shl k w l = rw one-mul (mod-eq-of-lt (pow-lt l))
+
+-- a station 16 or above is in no set, so that nothing changes without it
+pub no-member : (a i : ℕ) → a < 2 ^ 16 → 16 ≤ i → false ≡ member a i
+no-member a i l h =
+    by-cases (λ (b : Bool). false ≡ b) (member a i) (λ e. let k = within-member i 16 a l e in absurd (omega arith)) (λ _. refl)
+
+pub remove-none : (a k : ℕ) → a < 2 ^ 16 → 16 ≤ k → a ≡ remove a k
+remove-none a k l h =
+    same-members _ _ (λ i. sym (member-remove i k a ∙ by-cases (λ (b : Bool). eqb i k ≡ b → (member a i && not b) ≡ member a i) (eqb i k)
+    (λ _ e. rw (and-false, eqb-true i k e) (no-member a k l h)) (λ _ _. rw and-true) refl))
+
+pub all-within : (a n : ℕ) → a < 2 ^ 16 → 16 ≤ n → true ≡ within n a
+unfolding within
+all-within a n l h = let p : 2 ^ 16 ≤ 2 ^ n = pow-mono h in sym (lt-ltb a (2 ^ n) (omega arith))
+
+pub full-small : (n : ℕ) → n < 16 → 2 ^ n - 1 ≡ full n
+unfolding full
+full-small n l = rw (min-eq-left (le-of-lt l))
+
+pub full-all : (n : ℕ) → 16 ≤ n → 65535 ≡ full n
+unfolding full
+full-all n l = rw (min-eq-right l)

@@ -1,0 +1,118 @@
+-- The crate keeps its promise.
+use mathlib.Core.Path.{_≡_, refl, sym, ap, _∙_}
+use mathlib.Core.Bool.{Bool, true, false, not, cond, _&&_, _||_}
+use mathlib.Core.List.{List}
+use mathlib.Core.Logic.{_↔_}
+use Prim.Native.Nat.{ℕ, zero, suc, _+_, _≤_, _<_, _^_}
+use native.Mathlib.Nat.{not-suc-le-zero}
+use native.Mathlib.Omega.{arith}
+use lib.ListN.{length}
+use lib.Dec.{ltb, eqb}
+use lib.Pow.{pow-pos, pow-mono}
+use borrow.Author.Tests.{ltb-true, lt-ltb, eqb-true, eqb-false, ne-eqb, not-true}
+use Rattle.quorum.specs.Tests.{anyBelow}
+use Rattle.quorum.specs.Sets.{member, used, holds, shares, within, full}
+use Rattle.quorum.specs.Configurations.{setAt, readSet, writeSet, valid, holdsPlace, holdsRead, holdsWrite, firstPlace, firstRead, firstWrite}
+use Rattle.quorum.specs.Promise.{Promise, Some, _⊆_, LiesIn, FirstIn}
+use Rattle.quorum.specs.declared.Place.{Place}
+use Rattle.quorum.specs.declared.Place.the-variants.{At, Nowhere}
+use Rattle.quorum.proofs.Tests.{clash, by-cases, same-test, any-below, below-any, none-below}
+use Rattle.quorum.proofs.Members.{member-empty, member-join, member-remove, member-full, same-members, holds-member, member-holds, shares-member, member-shares, used-member, within-member, within-join, within-remove}
+use Rattle.quorum.proofs.Validity.{Side, Valid, valid-facts, first-used, place-lies, lies-place, first-found, first-nowhere}
+
+-- a test that cannot pass fails
+fails : (b : Bool) → (b ≡ true → ⊥) → b ≡ false
+fails true h = absurd (h refl)
+fails false h = refl
+
+-- ---- a side of a configuration
+module _ (side : ℕ → ℕ) (set : ℕ) where
+  abbrev any : Bool
+  any = anyBelow (holdsPlace side set) 8
+
+  held : (any ≡ true) ↔ Some 8 (LiesIn side set)
+  held = (
+    λ e. let s = any-below (holdsPlace side set) 8 e in (s .0, s .1, place-lies side set (s .0) (s .2)),
+    λ s. below-any (holdsPlace side set) 8 (s .0) (s .1) (lies-place side set (s .0) (s .2)),
+  )
+
+more : (side : ℕ → ℕ) (a b : ℕ) → a ⊆ b → anyBelow (holdsPlace side a) 8 ≡ true → anyBelow (holdsPlace side b) 8 ≡ true
+more side a b s e =
+    let h = held side a .0 e in held side b .1 (h .0, h .1, (h .2 .0, λ i m. s i (h .2 .1 i m)))
+
+-- a used set has a member, and the empty set has none
+none : (side : ℕ → ℕ) → anyBelow (holdsPlace side 0) 8 ≡ false
+none side =
+    fails _ (λ e. let h = held side 0 .0 e in let m = used-member (side (h .0)) (h .2 .0) in clash (h .2 .1 (m .0) (m .1)) (member-empty (m .0)))
+
+-- all of the n stations hold the first set of a valid side
+whole : (n : ℕ) (side : ℕ → ℕ) → n ≤ 16 → Side n side → anyBelow (holdsPlace side (full n)) 8 ≡ true
+unfolding within
+whole n side l s =
+    held side (full n) .1 (0, omega arith, (first-used n side s, λ i m. member-full n i l ∙ lt-ltb i n (within-member i n (side 0) (ltb-true _ _ (s .inRange 0 (omega arith))) m)))
+
+meeting : (n : ℕ) (c : List ℕ) (r w : ℕ) → valid n c ≡ true → holdsRead c r ≡ true → holdsWrite c w ≡ true
+    → Some n (λ i. (member r i ≡ true) × (member w i ≡ true))
+unfolding holdsRead holdsWrite within
+meeting n c r w v hr hw =
+    let f = valid-facts n c v in
+    let x = held (readSet c) r .0 hr in
+    let y = held (writeSet c) w .0 hw in
+    let m = shares-member (readSet c (x .0)) (writeSet c (y .0)) (f .meet (x .0) (y .0) (x .1) (y .1) (x .2 .0) (y .2 .0)) in (
+      m .0,
+      within-member (m .0) n (readSet c (x .0)) (ltb-true _ _ (f .reads .inRange (x .0) (x .1))) (m .1),
+      (x .2 .1 (m .0) (m .1), y .2 .1 (m .0) (m .2)),
+    )
+
+-- a list of another length has no sets
+short : (side : ℕ → ℕ) (set : ℕ) → ((k : ℕ) → side k ≡ 0) → anyBelow (holdsPlace side set) 8 ≡ false
+unfolding used
+short side set h = fails _ (λ e. let s = held side set .0 e in clash (s .2 .0) (rw (h (s .0))))
+
+no-set : (c : List ℕ) (place : ℕ) → (length c ≡ 32 → ⊥) → setAt c place ≡ 0
+unfolding setAt
+no-set c place h = rw (ne-eqb _ _ h)
+
+-- the first place whose set lies within
+module _ (side : ℕ → ℕ) (set : ℕ) where
+  first-in : (k : ℕ) → (firstPlace (holdsPlace side set) 8 ≡ At k) ↔ FirstIn side set k
+  first-in k = (
+    λ e. let f = first-found (holdsPlace side set) 8 k .0 e in
+        (f .0, place-lies side set k (f .1), λ j l h. clash (lies-place side set j h) (f .2 j l)),
+    λ f. first-found (holdsPlace side set) 8 k .1 (f .0, lies-place side set k (f .1), λ j l. fails _ (λ e. f .2 j l (place-lies side set j e))),
+  )
+
+pub promise : Promise
+unfolding readSet writeSet holdsRead holdsWrite firstRead firstWrite within
+promise =
+    record {
+      quorums-meet = meeting;
+      holds-read = λ c. held (readSet c);
+      holds-write = λ c. held (writeSet c);
+      read-more = λ c. more (readSet c);
+      write-more = λ c. more (writeSet c);
+      none-read = λ c. none (readSet c);
+      none-write = λ c. none (writeSet c);
+      all-read = λ n c v. let f = valid-facts n c v in whole n (readSet c) (f .small) (f .reads);
+      all-write = λ n c v. let f = valid-facts n c v in whole n (writeSet c) (f .small) (f .writes);
+      first-read = λ c. first-in (readSet c);
+      first-write = λ c. first-in (writeSet c);
+      no-first-read = λ c set. first-nowhere (holdsPlace (readSet c) set) 8;
+      no-first-write = λ c set. first-nowhere (holdsPlace (writeSet c) set) 8;
+      valid-stations = λ n c v. let f = valid-facts n c v in (f .positive, f .small);
+      valid-length = λ n c v. valid-facts n c v .long;
+      short-read = λ c set h. short (readSet c) set (λ k. no-set c k h);
+      short-write = λ c set h. short (writeSet c) set (λ k. no-set c (8 + k) h);
+      member-empty = member-empty;
+      member-join = member-join;
+      member-remove = λ a i k. member-remove i k a;
+      member-full = member-full;
+      same-members = λ a b p q. same-members a b (λ i. same-test _ _ (p i) (q i));
+      holds-members = λ a b. (holds-member a b, member-holds a b);
+      shares-member = λ a b. (shares-member a b, λ s. member-shares a b (s .0) (s .1) (s .2));
+      within-member = λ n a i w m. within-member i n a (ltb-true _ _ w) m;
+      within-empty = λ n. lt-ltb 0 (2 ^ n) (pow-pos n);
+      within-join = within-join;
+      within-remove = within-remove;
+      within-16 = λ n a l w. let h = ltb-true a (2 ^ n) w in let p : 2 ^ n ≤ 2 ^ 16 = pow-mono l in omega arith;
+    }

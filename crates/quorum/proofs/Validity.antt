@@ -1,0 +1,192 @@
+-- A valid configuration, as facts about its places, and the places of a side that a set holds.
+use mathlib.Core.Path.{_≡_, refl, sym, ap, _∙_}
+use mathlib.Core.Bool.{Bool, true, false, not, cond, _&&_, _||_}
+use mathlib.Core.List.{List, [], _∷_}
+use mathlib.Core.Logic.{_↔_, _⊎_, inl, inr, ⊎-elim}
+use Prim.Native.Nat.{ℕ, zero, suc, _+_, _*_, _≤_, _<_}
+use native.Mathlib.Nat.{not-suc-le-zero, le-antisymm}
+use native.Mathlib.Numerals.{add-one}
+use native.Mathlib.Omega.{arith}
+use lib.ListN.{length}
+use lib.Dec.{leb, eqb}
+use borrow.Author.Tests.{leb-true, le-leb, eqb-true, eqb-false, eq-eqb, not-true}
+use Rattle.quorum.specs.Tests.{all, allBelow, anyBelow}
+use Rattle.quorum.specs.Bytes.{number}
+use Rattle.quorum.specs.Sets.{member, used, holds, shares, within}
+use Rattle.quorum.specs.Configurations.{setAt, readSet, writeSet, usedFirst, someUsed, allWithin, sharesAll, allShare, validity, valid, holdsPlace, firstPlace, orElse}
+use Rattle.quorum.specs.Promise.{Some, _⊆_, LiesIn, FirstIn}
+use Rattle.quorum.specs.declared.Place.{Place}
+use Rattle.quorum.specs.declared.Place.the-variants.{At, Nowhere}
+use Rattle.quorum.proofs.Tests.{clash, by-cases, and-left, and-right, and-both, implies, implied, or-cases, AllTrue, all-true, true-all, all-below, below-all, any-below, below-any, below-suc}
+use Rattle.quorum.proofs.Members.{holds-member, member-holds}
+
+-- what the tests of one side say
+pub record Side (n : ℕ) (side : ℕ → ℕ) : Type 0 where
+  pub packed : (k : ℕ) → k < 7 → used (side (suc k)) ≡ true → used (side k) ≡ true
+  pub some : Some 8 (λ k. used (side k) ≡ true)
+  pub inRange : (k : ℕ) → k < 8 → within n (side k) ≡ true
+
+pub record Valid (n : ℕ) (c : List ℕ) : Type 0 where
+  pub positive : 1 ≤ n
+  pub small : n ≤ 16
+  pub long : length c ≡ 32
+  pub reads : Side n (readSet c)
+  pub writes : Side n (writeSet c)
+  pub meet : (i j : ℕ) → i < 8 → j < 8 → used (readSet c i) ≡ true → used (writeSet c j) ≡ true → shares (readSet c i) (writeSet c j) ≡ true
+
+or-swap : (a b : Bool) → (a || not b) ≡ true → b ≡ true → a ≡ true
+or-swap a b e h = or-cases a (not b) e (λ p. p) (λ q. clash h (not-true b q))
+
+swap-or : (a b : Bool) → (b ≡ true → a ≡ true) → (a || not b) ≡ true
+swap-or true b h = refl
+swap-or false true h = h refl
+swap-or false false h = refl
+
+-- the three tests of a side, and their facts
+side-facts : (n : ℕ) (side : ℕ → ℕ) → usedFirst side ≡ true → someUsed side ≡ true → allWithin n side ≡ true → Side n side
+unfolding usedFirst someUsed allWithin
+side-facts n side p q r =
+    record {
+      packed = λ k l. or-swap _ _ (all-below _ 7 p k l);
+      some = any-below _ 8 q;
+      inRange = λ k l. all-below _ 8 r k l;
+    }
+
+facts-side : (n : ℕ) (side : ℕ → ℕ) → Side n side → (usedFirst side ≡ true) × (someUsed side ≡ true) × (allWithin n side ≡ true)
+unfolding usedFirst someUsed allWithin
+facts-side n side s = (
+  below-all _ 7 (λ k l. swap-or _ _ (s .packed k l)),
+  below-any _ 8 (s .some .0) (s .some .1) (s .some .2),
+  below-all _ 8 (λ k l. s .inRange k l),
+)
+
+pub valid-facts : (n : ℕ) (c : List ℕ) → valid n c ≡ true → Valid n c
+unfolding valid validity allShare sharesAll
+valid-facts n c e =
+    let t = all-true (validity n c) e in
+    let u = t .1 .1 .1 in
+    let v = u .1 .1 .1 .1 in
+    record {
+      positive = leb-true 1 n (t .0);
+      small = leb-true n 16 (t .1 .0);
+      long = eqb-true _ _ (t .1 .1 .0);
+      reads = side-facts n (readSet c) (u .0) (u .1 .1 .0) (v .0);
+      writes = side-facts n (writeSet c) (u .1 .0) (u .1 .1 .1 .0) (v .1 .0);
+      meet = λ i j l m p q. implies _ _ (all-below _ 8 (implies _ _ (all-below _ 8 (v .1 .1 .0) i l) p) j m) q;
+    }
+
+pub facts-valid : (n : ℕ) (c : List ℕ) → Valid n c → valid n c ≡ true
+unfolding valid validity allShare sharesAll
+facts-valid n c v =
+    let r = facts-side n (readSet c) (v .reads) in
+    let w = facts-side n (writeSet c) (v .writes) in
+    true-all (validity n c) (
+      le-leb 1 n (v .positive),
+      (
+        le-leb n 16 (v .small),
+        (
+          eq-eqb (length c) 32 (v .long),
+          (
+            r .0,
+            (
+              w .0,
+              (
+                r .1,
+                (
+                  w .1,
+                  (
+                    r .2,
+                    (
+                      w .2,
+                      (below-all _ 8 (λ i l. implied _ _ (λ p. below-all _ 8 (λ j m. implied _ _ (v .meet i j l m p)))), tt),
+                    ),
+                  ),
+                ),
+              ),
+            ),
+          ),
+        ),
+      ),
+    )
+
+pub invalid : (n : ℕ) (c : List ℕ) → (Valid n c → ⊥) → false ≡ valid n c
+invalid n c h = by-cases (λ (b : Bool). false ≡ b) (valid n c) (λ e. absurd (h (valid-facts n c e))) (λ _. refl)
+
+-- the first place of a valid side is used
+pub first-used : (n : ℕ) (side : ℕ → ℕ) → Side n side → used (side 0) ≡ true
+first-used n side s = go (s .some .0) (s .some .1) (s .some .2)
+  where
+    go : (k : ℕ) → k < 8 → used (side k) ≡ true → used (side 0) ≡ true
+    go zero l e = e
+    go (suc k) l e = go k (omega arith) (s .packed k (omega arith) e)
+
+-- ---- the places that a set holds
+pub place-lies : (side : ℕ → ℕ) (set k : ℕ) → holdsPlace side set k ≡ true → LiesIn side set k
+unfolding holdsPlace
+place-lies side set k e = (and-left _ _ e, holds-member set (side k) (and-right (used (side k)) _ e))
+
+pub lies-place : (side : ℕ → ℕ) (set k : ℕ) → LiesIn side set k → holdsPlace side set k ≡ true
+unfolding holdsPlace
+lies-place side set k h = and-both _ _ (h .0) (member-holds set (side k) (h .1))
+
+-- ---- the first place
+first-step : (p : ℕ → Bool) (k : ℕ) → firstPlace p (suc k) ≡ orElse (firstPlace p k) (cond (p k) (At k) Nowhere)
+unfolding firstPlace
+first-step p k = refl
+
+-- what a search that counts up asks: at its start, where it goes on, where it finds, and where it ends
+pub first-start : (p : ℕ → Bool) → firstPlace p 0 ≡ Nowhere
+unfolding firstPlace
+first-start p = refl
+
+pub first-on : (p : ℕ → Bool) (k : ℕ) → firstPlace p k ≡ Nowhere → p k ≡ false → firstPlace p (k + 1) ≡ Nowhere
+unfolding orElse
+first-on p k e f = rw (add-one, first-step, e, f)
+
+pub first-hit : (p : ℕ → Bool) (n k : ℕ) → k < n → firstPlace p k ≡ Nowhere → p k ≡ true → firstPlace p n ≡ At k
+unfolding orElse
+first-hit p zero k l e f = absurd (not-suc-le-zero l)
+first-hit p (suc n) k l e f =
+    by-cases (λ (b : Bool). eqb k n ≡ b → firstPlace p (suc n) ≡ At k) (eqb k n)
+    (λ _ q. let h = eqb-true k n q in rw (first-step, ← h, e, f))
+    (λ _ q. let h : k ≡ n → ⊥ = eqb-false k n q in rw (first-step, first-hit p n k (omega arith) e f)) refl
+
+pub first-end : (p : ℕ → Bool) (n k : ℕ) → k ≤ n → n ≤ k → firstPlace p k ≡ Nowhere → Nowhere ≡ firstPlace p n
+first-end p n k l m e = sym (ap (firstPlace p) (le-antisymm m l) ∙ e)
+
+-- the search over the numbers below n: of none does p hold, or i is the first
+abbrev None : (ℕ → Bool) → ℕ → Type 0
+None p n = (j : ℕ) → j < n → p j ≡ false
+
+abbrev First : (ℕ → Bool) → ℕ → ℕ → Type 0
+First p n i = (i < n) × (p i ≡ true) × None p i
+
+abbrev Scanned : (ℕ → Bool) → ℕ → Type 0
+Scanned p n = ((firstPlace p n ≡ Nowhere) × None p n) ⊎ ((i : ℕ) × (firstPlace p n ≡ At i) × First p n i)
+
+scan : (p : ℕ → Bool) (n : ℕ) → Scanned p n
+unfolding orElse
+scan p zero = inl (first-start p, λ j l. absurd (not-suc-le-zero l))
+scan p (suc n) = ⊎-elim stop on (scan p n)
+  where
+    stop : (firstPlace p n ≡ Nowhere) × None p n → Scanned p (suc n)
+    stop h =
+        by-cases (λ (b : Bool). p n ≡ b → Scanned p (suc n)) (p n)
+        (λ _ e. inr (n, first-hit p (suc n) n (omega arith) (h .0) e, (omega arith, e, h .1)))
+        (λ _ e. inl (rw add-one at (first-on p n (h .0) e), below-suc (λ (j : ℕ). p j ≡ false) n (h .1) e)) refl
+
+    on : (i : ℕ) × (firstPlace p n ≡ At i) × First p n i → Scanned p (suc n)
+    on r = let l = r .2 .0 in inr (r .0, rw (first-step, r .1), (omega arith, r .2 .1, r .2 .2))
+
+pub first-found : (p : ℕ → Bool) (n k : ℕ) → (firstPlace p n ≡ At k) ↔ First p n k
+first-found p n k = (
+  λ e. ⊎-elim (λ h. let z : _≡_ {A = ℕ} 0 1 = cc (h .0) in absurd (omega arith)) (λ r. let q : r .0 ≡ k = cc (r .1) in rw q at (r .2)) (scan p n),
+  λ f. first-hit p n k (f .0) (⊎-elim (λ h. h .0) (λ r. clash (r .2 .1) (f .2 (r .0) (r .2 .0))) (scan p k)) (f .1),
+)
+
+pub first-nowhere : (p : ℕ → Bool) (n : ℕ) → (firstPlace p n ≡ Nowhere) ↔ (anyBelow p n ≡ false)
+first-nowhere p n = (
+  λ e. by-cases (λ (b : Bool). b ≡ false) (anyBelow p n) (λ t. let s = any-below p n t in
+      ⊎-elim (λ h. clash (s .2) (h .1 (s .0) (s .1))) (λ r. let z : _≡_ {A = ℕ} 0 1 = cc (r .1) in absurd (omega arith)) (scan p n)) (λ f. refl),
+  λ e. ⊎-elim (λ h. h .0) (λ r. clash (below-any p n (r .0) (r .2 .0) (r .2 .1)) e) (scan p n),
+)

@@ -1,0 +1,16 @@
+-- Parts of a list of bytes, and the numbers in them: "Numbers are least significant byte first."
+use mathlib.Core.List.{List, [], _∷_}
+use Prim.Native.Nat.{ℕ, _+_, _*_}
+use lib.ListN.{take, drop}
+
+-- the bytes from a place on, as many as the width says
+abbrev pub part : List ℕ → ℕ → ℕ → List ℕ
+part t at width = take width (drop at t)
+
+unfoldable pub littleEndian : List ℕ → ℕ
+littleEndian [] = 0
+littleEndian (byte ∷ rest) = byte + 256 * littleEndian rest
+
+-- the number in the bytes from a place on
+abbrev pub number : List ℕ → ℕ → ℕ → ℕ
+number t at width = littleEndian (part t at width)

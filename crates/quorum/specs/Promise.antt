@@ -1,0 +1,71 @@
+-- What the crate promises of its definitions. The crates above rely on this record and on the contracts alone.
+use mathlib.Core.Path.{_≡_}
+use mathlib.Core.Bool.{true, false, not, _&&_, _||_}
+use mathlib.Core.List.{List}
+use mathlib.Core.Logic.{_↔_}
+use Prim.Native.Nat.{ℕ, _≤_, _<_}
+use lib.Dec.{ltb, eqb}
+use lib.ListN.{length}
+use Rattle.quorum.specs.Sets.{member, used, holds, shares, within, join, remove, full}
+use Rattle.quorum.specs.Configurations.{readSet, writeSet, valid, holdsRead, holdsWrite, firstRead, firstWrite}
+use Rattle.quorum.specs.declared.Place.the-variants.{At, Nowhere}
+
+infix 50 _⊆_
+-- some number below a bound has P
+abbrev pub Some : ℕ → (ℕ → Type 0) → Type 0
+Some n P = (i : ℕ) × (i < n) × P i
+
+-- every member of a is one of b
+abbrev pub _⊆_ : ℕ → ℕ → Type 0
+a ⊆ b = (i : ℕ) → member a i ≡ true → member b i ≡ true
+
+-- a place of a side is used, and its set lies within the given one: source 000's 𝓡 ∈ c.read and 𝓡 ⊆ read
+abbrev pub LiesIn : (ℕ → ℕ) → ℕ → ℕ → Type 0
+LiesIn side set k = (used (side k) ≡ true) × (side k ⊆ set)
+
+-- k is the first place of a side whose set lies within the given one
+abbrev pub FirstIn : (ℕ → ℕ) → ℕ → ℕ → Type 0
+FirstIn side set k = (k < 8) × LiesIn side set k × ((j : ℕ) → j < k → LiesIn side set j → ⊥)
+
+pub record Promise : Type 0 where
+  -- ---- quorums (source 000, section 3)
+  -- a set that holds a read set and a set that holds a write set share a station, one of the n
+  pub quorums-meet : (n : ℕ) (c : List ℕ) (r w : ℕ) → valid n c ≡ true → holdsRead c r ≡ true → holdsWrite c w ≡ true
+      → Some n (λ i. (member r i ≡ true) × (member w i ≡ true))
+  -- to hold a read or a write set is that one lies within
+  pub holds-read : (c : List ℕ) (set : ℕ) → (holdsRead c set ≡ true) ↔ Some 8 (LiesIn (readSet c) set)
+  pub holds-write : (c : List ℕ) (set : ℕ) → (holdsWrite c set ≡ true) ↔ Some 8 (LiesIn (writeSet c) set)
+  -- a larger set holds what a smaller one does, the empty set holds none, all stations hold one of each side
+  pub read-more : (c : List ℕ) (a b : ℕ) → a ⊆ b → holdsRead c a ≡ true → holdsRead c b ≡ true
+  pub write-more : (c : List ℕ) (a b : ℕ) → a ⊆ b → holdsWrite c a ≡ true → holdsWrite c b ≡ true
+  pub none-read : (c : List ℕ) → holdsRead c 0 ≡ false
+  pub none-write : (c : List ℕ) → holdsWrite c 0 ≡ false
+  pub all-read : (n : ℕ) (c : List ℕ) → valid n c ≡ true → holdsRead c (full n) ≡ true
+  pub all-write : (n : ℕ) (c : List ℕ) → valid n c ≡ true → holdsWrite c (full n) ≡ true
+  -- ---- places
+  -- the first place is the first whose set lies within, and there is none exactly if no set is held
+  pub first-read : (c : List ℕ) (set k : ℕ) → (firstRead c set ≡ At k) ↔ FirstIn (readSet c) set k
+  pub first-write : (c : List ℕ) (set k : ℕ) → (firstWrite c set ≡ At k) ↔ FirstIn (writeSet c) set k
+  pub no-first-read : (c : List ℕ) (set : ℕ) → (firstRead c set ≡ Nowhere) ↔ (holdsRead c set ≡ false)
+  pub no-first-write : (c : List ℕ) (set : ℕ) → (firstWrite c set ≡ Nowhere) ↔ (holdsWrite c set ≡ false)
+  -- ---- validity
+  pub valid-stations : (n : ℕ) (c : List ℕ) → valid n c ≡ true → (1 ≤ n) × (n ≤ 16)
+  pub valid-length : (n : ℕ) (c : List ℕ) → valid n c ≡ true → length c ≡ 32
+  -- a list of another length has no sets
+  pub short-read : (c : List ℕ) (set : ℕ) → (length c ≡ 32 → ⊥) → holdsRead c set ≡ false
+  pub short-write : (c : List ℕ) (set : ℕ) → (length c ≡ 32 → ⊥) → holdsWrite c set ≡ false
+  -- ---- members
+  pub member-empty : (i : ℕ) → member 0 i ≡ false
+  pub member-join : (a i k : ℕ) → k < 16 → member (join a k) i ≡ (member a i || eqb i k)
+  pub member-remove : (a i k : ℕ) → member (remove a k) i ≡ (member a i && not (eqb i k))
+  pub member-full : (n i : ℕ) → n ≤ 16 → member (full n) i ≡ ltb i n
+  -- sets with the same members are equal
+  pub same-members : (a b : ℕ) → a ⊆ b → b ⊆ a → a ≡ b
+  pub holds-members : (a b : ℕ) → (holds a b ≡ true) ↔ (b ⊆ a)
+  pub shares-member : (a b : ℕ) → (shares a b ≡ true) ↔ ((i : ℕ) × (member a i ≡ true) × (member b i ≡ true))
+  -- ---- stations below n
+  pub within-member : (n a i : ℕ) → within n a ≡ true → member a i ≡ true → i < n
+  pub within-empty : (n : ℕ) → within n 0 ≡ true
+  pub within-join : (n a k : ℕ) → n ≤ 16 → within n a ≡ true → k < n → within n (join a k) ≡ true
+  pub within-remove : (n a k : ℕ) → within n a ≡ true → within n (remove a k) ≡ true
+  pub within-16 : (n a : ℕ) → n ≤ 16 → within n a ≡ true → a < 65536

@@ -1,0 +1,38 @@
+-- Station sets (document 01, "Stations, sets, configurations"): "A station set is 16 bits: bit i is station i."
+-- A station is a replica of source 000, and a station set a set of replica names.
+use mathlib.Core.Bool.{Bool, not, cond}
+use Prim.Native.Nat.{ℕ, _-_, _/_, _%_, _^_, min}
+use lib.Dec.{ltb, eqb}
+use lib.Bits.{bitAnd, bitOr}
+
+-- station i is in the set
+unfoldable pub member : ℕ → ℕ → Bool
+member set i = eqb (set / 2 ^ i % 2) 1
+
+-- the set has a station
+unfoldable pub used : ℕ → Bool
+used set = not (eqb set 0)
+
+-- the set holds every station of the other
+unfoldable pub holds : ℕ → ℕ → Bool
+holds set other = eqb (bitAnd set other) other
+
+-- the two sets share a station
+unfoldable pub shares : ℕ → ℕ → Bool
+shares a b = not (eqb (bitAnd a b) 0)
+
+-- the set names no station n or above
+unfoldable pub within : ℕ → ℕ → Bool
+within n set = ltb set (2 ^ n)
+
+-- the set with station i; there is no station 16 or above
+unfoldable pub join : ℕ → ℕ → ℕ
+join set i = cond (ltb i 16) (bitOr set (2 ^ i)) set
+
+-- the set without station i
+unfoldable pub remove : ℕ → ℕ → ℕ
+remove set i = set - bitAnd set (2 ^ i)
+
+-- the set of all of n stations, at most 16
+unfoldable pub full : ℕ → ℕ
+full n = 2 ^ min n 16 - 1
