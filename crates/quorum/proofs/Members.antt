@@ -10,7 +10,7 @@ use lib.Arith.{bin-ind, digits-div, digits-mod}
 use lib.Pow.{shr-shr, pow-pos, pow-lt, pow-mono}
 use lib.Bits.{bitAnd, bitOr, and-step, or-step, and-le-l, and-lt, or-lt, and-zero-l, and-zero-r}
 use borrow.Author.Tests.{ltb-true, ltb-false, lt-ltb, le-ltb, eqb-true, eqb-false, eq-eqb, ne-eqb, not-true, not-false}
-use Rattle.quorum.specs.Sets.{member, used, holds, shares, within, join, remove, full}
+use Rattle.quorum.specs.Sets.{member, used, holds, shares, within, join, minus, remove, full}
 use Rattle.quorum.proofs.Tests.{same-test, and-left, and-right, and-both, by-cases, clash}
 
 -- ---- station 0, and the stations above it
@@ -71,11 +71,27 @@ or-digits =
       );
     }
 
+minus-digits : Digitwise minus (λ x y. x - min x y) (λ x y. x && not y)
+unfolding minus
+minus-digits =
+    record {
+      step = λ a b. omega (arith, and-step a b, and-le-l (a / 2) (b / 2));
+      table = λ x y p q. (
+        omega arith,
+        digit (λ (x : ℕ). eqb (x - min x y) 1 ≡ (eqb x 1 && not (eqb y 1))) x p
+            (digit (λ (y : ℕ). eqb (0 - min 0 y) 1 ≡ (eqb 0 1 && not (eqb y 1))) y q refl refl)
+            (digit (λ (y : ℕ). eqb (1 - min 1 y) 1 ≡ (eqb 1 1 && not (eqb y 1))) y q refl refl),
+      );
+    }
+
 pub member-and : (i a b : ℕ) → member (bitAnd a b) i ≡ (member a i && member b i)
 member-and = member-op bitAnd min _&&_ and-digits
 
 pub member-or : (i a b : ℕ) → member (bitOr a b) i ≡ (member a i || member b i)
 member-or = member-op bitOr max _||_ or-digits
+
+pub member-minus : (i a b : ℕ) → member (minus a b) i ≡ (member a i && not (member b i))
+member-minus = member-op minus (λ x y. x - min x y) (λ x y. x && not y) minus-digits
 
 -- the set of one station
 pub member-one : (i k : ℕ) → member (2 ^ k) i ≡ eqb i k
@@ -84,25 +100,9 @@ member-one zero (suc k) = rw (member-zero, eqb·zero-suc k) (ne-eqb (2 ^ suc k %
 member-one (suc i) zero = rw (member-suc, eqb·suc-zero i) (member-empty i)
 member-one (suc i) (suc k) = let h : 2 ^ suc k / 2 ≡ 2 ^ k = omega arith in rw (member-suc, h, eqb·suc-suc i k) (member-one i k)
 
--- the set without a station, digit by digit
-remove-zero : (a : ℕ) → (remove a 0 / 2 ≡ a / 2) × (remove a 0 % 2 ≡ 0)
-unfolding remove
-remove-zero a = let h : bitAnd a 1 ≡ a % 2 = omega (arith, and-step a 1, and-zero-r (a / 2)) in rw h (omega arith)
-
-remove-suc : (a k : ℕ) → (remove a (suc k) / 2 ≡ remove (a / 2) k) × (remove a (suc k) % 2 ≡ a % 2)
-unfolding remove
-remove-suc a k =
-    let half : 2 ^ suc k / 2 ≡ 2 ^ k = omega arith in
-    let h : bitAnd a (2 ^ suc k) ≡ bitAnd (a / 2) (2 ^ k) * 2 + min (a % 2) (2 ^ suc k % 2) = rw half at (and-step a (2 ^ suc k)) in
-    let l = and-le-l (a / 2) (2 ^ k) in
-    omega arith
-
 pub member-remove : (i k a : ℕ) → member (remove a k) i ≡ (member a i && not (eqb i k))
-member-remove zero zero a = rw (member-zero (remove a 0), remove-zero a .1, and-false)
-member-remove zero (suc k) a = rw (member-zero (remove a (suc k)), remove-suc a k .1, eqb·zero-suc k, and-true, member-zero a)
-member-remove (suc i) zero a = rw (member-suc (remove a 0), remove-zero a .0, eqb·suc-zero i, and-true, member-suc a)
-member-remove (suc i) (suc k) a =
-    rw (member-suc (remove a (suc k)), remove-suc a k .0, eqb·suc-suc i k, member-suc a) (member-remove i k (a / 2))
+unfolding remove
+member-remove i k a = rw (member-minus i a (2 ^ k), member-one i k)
 
 -- ---- from the members to the set
 -- a set that has no member is empty
@@ -192,9 +192,9 @@ unfolding within join
 within-join n a k l e h =
     let q : k < 16 = omega arith in rw (lt-ltb _ _ q) (lt-ltb _ _ (or-lt n a (2 ^ k) (ltb-true _ _ e) (pow-lt h)))
 
-pub within-remove : (n a k : ℕ) → within n a ≡ true → within n (remove a k) ≡ true
-unfolding within remove
-within-remove n a k e = lt-ltb (a - bitAnd a (2 ^ k)) (2 ^ n) (omega (arith, ltb-true a (2 ^ n) e))
+pub within-minus : (n a b : ℕ) → within n a ≡ true → within n (minus a b) ≡ true
+unfolding within minus
+within-minus n a b e = lt-ltb (a - bitAnd a b) (2 ^ n) (omega (arith, ltb-true a (2 ^ n) e))
 
 -- ---- sets of 16 bits, as the code has them
 pub one-shl : (k w : ℕ) → k < w → (1 * 2 ^ k) % 2 ^ w ≡ 2 ^ k

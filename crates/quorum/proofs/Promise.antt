@@ -11,13 +11,13 @@ use lib.Dec.{ltb, eqb}
 use lib.Pow.{pow-pos, pow-mono}
 use borrow.Author.Tests.{ltb-true, lt-ltb, eqb-true, eqb-false, ne-eqb, not-true}
 use Rattle.quorum.specs.Tests.{anyBelow}
-use Rattle.quorum.specs.Sets.{member, used, holds, shares, within, full}
+use Rattle.quorum.specs.Sets.{member, used, holds, shares, within, remove, full}
 use Rattle.quorum.specs.Configurations.{setAt, readSet, writeSet, valid, holdsPlace, holdsRead, holdsWrite, firstPlace, firstRead, firstWrite}
 use Rattle.quorum.specs.Promise.{Promise, Some, _⊆_, LiesIn, FirstIn}
 use Rattle.quorum.specs.declared.Place.{Place}
 use Rattle.quorum.specs.declared.Place.the-variants.{At, Nowhere}
 use Rattle.quorum.proofs.Tests.{clash, by-cases, same-test, any-below, below-any, none-below}
-use Rattle.quorum.proofs.Members.{member-empty, member-join, member-remove, member-full, same-members, holds-member, member-holds, shares-member, member-shares, used-member, within-member, within-join, within-remove}
+use Rattle.quorum.proofs.Members.{member-empty, member-join, member-minus, member-remove, member-full, same-members, holds-member, member-holds, shares-member, member-shares, used-member, within-member, within-join, within-minus}
 use Rattle.quorum.proofs.Validity.{Side, Valid, valid-facts, first-used, place-lies, lies-place, first-found, first-nowhere}
 
 -- a test that cannot pass fails
@@ -83,7 +83,7 @@ module _ (side : ℕ → ℕ) (set : ℕ) where
   )
 
 pub promise : Promise
-unfolding readSet writeSet holdsRead holdsWrite firstRead firstWrite within
+unfolding readSet writeSet holdsRead holdsWrite firstRead firstWrite within remove
 promise =
     record {
       quorums-meet = meeting;
@@ -105,6 +105,7 @@ promise =
       short-write = λ c set h. short (writeSet c) set (λ k. no-set c (8 + k) h);
       member-empty = member-empty;
       member-join = member-join;
+      member-minus = λ a b i. member-minus i a b;
       member-remove = λ a i k. member-remove i k a;
       member-full = member-full;
       same-members = λ a b p q. same-members a b (λ i. same-test _ _ (p i) (q i));
@@ -113,6 +114,7 @@ promise =
       within-member = λ n a i w m. within-member i n a (ltb-true _ _ w) m;
       within-empty = λ n. lt-ltb 0 (2 ^ n) (pow-pos n);
       within-join = within-join;
-      within-remove = within-remove;
+      within-minus = within-minus;
+      within-remove = λ n a k. within-minus n a (2 ^ k);
       within-16 = λ n a l w. let h = ltb-true a (2 ^ n) w in let p : 2 ^ n ≤ 2 ^ 16 = pow-mono l in omega arith;
     }

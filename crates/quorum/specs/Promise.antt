@@ -6,7 +6,7 @@ use mathlib.Core.Logic.{_↔_}
 use Prim.Native.Nat.{ℕ, _≤_, _<_}
 use lib.Dec.{ltb, eqb}
 use lib.ListN.{length}
-use Rattle.quorum.specs.Sets.{member, used, holds, shares, within, join, remove, full}
+use Rattle.quorum.specs.Sets.{member, used, holds, shares, within, join, minus, remove, full}
 use Rattle.quorum.specs.Configurations.{readSet, writeSet, valid, holdsRead, holdsWrite, firstRead, firstWrite}
 use Rattle.quorum.specs.declared.Place.the-variants.{At, Nowhere}
 
@@ -57,6 +57,7 @@ pub record Promise : Type 0 where
   -- ---- members
   pub member-empty : (i : ℕ) → member 0 i ≡ false
   pub member-join : (a i k : ℕ) → k < 16 → member (join a k) i ≡ (member a i || eqb i k)
+  pub member-minus : (a b i : ℕ) → member (minus a b) i ≡ (member a i && not (member b i))
   pub member-remove : (a i k : ℕ) → member (remove a k) i ≡ (member a i && not (eqb i k))
   pub member-full : (n i : ℕ) → n ≤ 16 → member (full n) i ≡ ltb i n
   -- sets with the same members are equal
@@ -67,5 +68,6 @@ pub record Promise : Type 0 where
   pub within-member : (n a i : ℕ) → within n a ≡ true → member a i ≡ true → i < n
   pub within-empty : (n : ℕ) → within n 0 ≡ true
   pub within-join : (n a k : ℕ) → n ≤ 16 → within n a ≡ true → k < n → within n (join a k) ≡ true
+  pub within-minus : (n a b : ℕ) → within n a ≡ true → within n (minus a b) ≡ true
   pub within-remove : (n a k : ℕ) → within n a ≡ true → within n (remove a k) ≡ true
   pub within-16 : (n a : ℕ) → n ≤ 16 → within n a ≡ true → a < 65536

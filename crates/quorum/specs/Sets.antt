@@ -29,9 +29,13 @@ within n set = ltb set (2 ^ n)
 unfoldable pub join : ℕ → ℕ → ℕ
 join set i = cond (ltb i 16) (bitOr set (2 ^ i)) set
 
+-- the stations of a that are not in b
+unfoldable pub minus : ℕ → ℕ → ℕ
+minus a b = a - bitAnd a b
+
 -- the set without station i
 unfoldable pub remove : ℕ → ℕ → ℕ
-remove set i = set - bitAnd set (2 ^ i)
+remove set i = minus set (2 ^ i)
 
 -- the set of all of n stations, at most 16
 unfoldable pub full : ℕ → ℕ

@@ -2,7 +2,7 @@
 ghost use mathlib.Core.Path.{_≡_};
 ghost use Prim.Native.Nat.{_<_, _≤_};
 ghost use lib.ListN.{length};
-ghost use Rattle.quorum.specs.Sets.{member, holds, shares, within, join, remove, full};
+ghost use Rattle.quorum.specs.Sets.{member, holds, shares, within, join, minus, remove, full};
 ghost use Rattle.quorum.specs.Configurations.{setAt, readSet, writeSet, holdsPlace, valid, holdsRead, holdsWrite, firstRead, firstWrite};
 ghost use Rattle.quorum.specs.Lanes.{pairOk, gapOk, rowOk, laneOk, lanesOk, placeHeld, anyHeld, firstHeld};
 
@@ -55,12 +55,19 @@ pub fn with_station(set: u16, station: usize) -> u16
     }
 }
 
+// The stations of a that are not in b.
+pub fn difference(a: u16, b: u16) -> u16
+    ensures { λ r. ⌜ r ≡ minus a b ⌝ }
+{
+    a - (a & b)
+}
+
 // The set without the station.
 pub fn without_station(set: u16, station: usize) -> u16
     ensures { λ r. ⌜ r ≡ remove set station ⌝ }
 {
     if station < 16 {
-        set - (set & (1u16 << station))
+        difference(set, 1u16 << station)
     } else {
         set
     }

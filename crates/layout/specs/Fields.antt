@@ -1,0 +1,68 @@
+-- The fields of the table, read from its bytes.
+use mathlib.Core.List.{List}
+use Prim.Native.Nat.{ℕ, zero, suc, _+_}
+use Rattle.quorum.specs.Bytes.{part, number}
+use Rattle.layout.specs.Layout.{stationsAt, itemsAt, offAt, kindAt, itemAt, polledAt, dataPutsAt, configPutsAt, valueAt, targetAt, copyVersionAt, copyValueAt, copyGenerationAt, copyConfigAt, configSize, address}
+
+-- One copy: the data replica (version and value) and the configuration replica (generation and configuration) of source 000
+-- at one station. "A version is compared only with versions, and a generation only with generations."
+pub record Copy : Type 0 where
+  pub version : ℕ
+  pub value : ℕ
+  pub generation : ℕ
+  pub config : List ℕ
+
+-- A round is a logical access of source 000: none is open, or one that reads, writes or reconfigures.
+pub data Kind : Type 0 where
+  none read write change : Kind
+
+-- "4 round (0 none, 1 read, 2 write, 3 change)"; a table whose byte is above 3 is not sound
+abbrev pub kindOf : ℕ → Kind
+kindOf zero = none
+kindOf (suc zero) = read
+kindOf (suc (suc zero)) = write
+kindOf (suc (suc (suc k))) = change
+
+pub record Round : Type 0 where
+  pub kind : Kind
+  pub item : ℕ
+  pub polled : ℕ
+  pub dataPuts : ℕ
+  pub configPuts : ℕ
+  pub value : ℕ
+  pub target : List ℕ
+
+-- ---- the head
+abbrev pub stations : List ℕ → ℕ
+stations t = number t stationsAt 1
+
+abbrev pub items : List ℕ → ℕ
+items t = number t itemsAt 1
+
+abbrev pub offSet : List ℕ → ℕ
+offSet t = number t offAt 2
+
+abbrev pub roundOf : List ℕ → Round
+roundOf t =
+    record {
+      kind = kindOf (number t kindAt 1);
+      item = number t itemAt 1;
+      polled = number t polledAt 2;
+      dataPuts = number t dataPutsAt 2;
+      configPuts = number t configPutsAt 2;
+      value = number t valueAt 8;
+      target = part t targetAt configSize;
+    }
+
+-- ---- the copy that starts at a place, and the copy of an item at a station
+unfoldable pub copyFrom : List ℕ → ℕ → Copy
+copyFrom t at =
+    record {
+      version = number t (at + copyVersionAt) 8;
+      value = number t (at + copyValueAt) 8;
+      generation = number t (at + copyGenerationAt) 8;
+      config = part t (at + copyConfigAt) configSize;
+    }
+
+abbrev pub copyOf : List ℕ → ℕ → ℕ → Copy
+copyOf t i s = copyFrom t (address (stations t) i s)

@@ -1,0 +1,58 @@
+-- A sound table (document 01, "Bytes of the table"). A table of any length and content has an answer.
+use mathlib.Core.Bool.{Bool, not, _&&_}
+use mathlib.Core.List.{List, [], _∷_}
+use Prim.Native.Nat.{ℕ}
+use lib.ListN.{length}
+use lib.Dec.{ltb, leb, eqb}
+use Rattle.quorum.specs.Tests.{all, allBelow}
+use Rattle.quorum.specs.Bytes.{number}
+use Rattle.quorum.specs.Sets.{shares, within}
+use Rattle.quorum.specs.Configurations.{valid}
+use Rattle.layout.specs.Layout.{tableLength, kindAt, itemAt, spareAt, valueAt, targetAt, configSize}
+use Rattle.layout.specs.Fields.{Kind, none, read, write, change, Round, stations, items, offSet, roundOf, copyOf}
+
+-- the bytes from a place on, as many as the width says, are zero
+abbrev pub isZero : List ℕ → ℕ → ℕ → Bool
+isZero t at width = eqb (number t at width) 0
+
+-- "with no round, bytes 5–11 and 16–55 are zero; in a read both put sets, value and target are zero; in a write the
+-- configuration puts and target are zero; in a change the value is zero and the target valid"
+unfoldable pub roundSound : List ℕ → Kind → Bool
+roundSound t none = isZero t itemAt 7 && isZero t valueAt 40
+roundSound t read = eqb (roundOf t .dataPuts) 0 && eqb (roundOf t .configPuts) 0 && isZero t valueAt 40
+roundSound t write = eqb (roundOf t .configPuts) 0 && isZero t targetAt configSize
+roundSound t change = eqb (roundOf t .value) 0 && valid (stations t) (roundOf t .target)
+
+-- "every copy's configuration is valid"
+unfoldable pub copiesValid : List ℕ → Bool
+copiesValid t = allBelow (λ i. allBelow (λ s. valid (stations t) (copyOf t i s .config)) (stations t)) (items t)
+
+unfoldable pub soundness : List ℕ → List Bool
+soundness t =
+    -- its length fits
+    eqb (length t) (tableLength (stations t) (items t))
+    -- n, m, round and item are in range
+    ∷ leb 1 (stations t)
+    ∷ leb (stations t) 16
+    ∷ leb 1 (items t)
+    ∷ leb (items t) 32
+    ∷ leb (number t kindAt 1) 3
+    ∷ ltb (roundOf t .item) (items t)
+    -- all head sets name stations below n
+    ∷ within (stations t) (offSet t)
+    ∷ within (stations t) (roundOf t .polled)
+    ∷ within (stations t) (roundOf t .dataPuts)
+    ∷ within (stations t) (roundOf t .configPuts)
+    -- no put set meets the off set
+    ∷ not (shares (roundOf t .dataPuts) (offSet t))
+    ∷ not (shares (roundOf t .configPuts) (offSet t))
+    -- with no round .. in a read .. in a write .. in a change
+    ∷ roundSound t (roundOf t .kind)
+    -- 12–15 are zero
+    ∷ isZero t spareAt 4
+    -- every copy's configuration is valid
+    ∷ copiesValid t
+    ∷ []
+
+unfoldable pub sound : List ℕ → Bool
+sound t = all (soundness t)

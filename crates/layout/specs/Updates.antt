@@ -1,0 +1,44 @@
+-- What is written into the table's bytes.
+use mathlib.Core.List.{List, [], _∷_, _++_}
+use Prim.Native.Nat.{ℕ, zero, suc, _+_, _/_, _%_}
+use lib.ListN.{length, take, drop, replicate}
+use Rattle.layout.specs.Layout.{offAt, kindAt, itemAt, polledAt, dataPutsAt, valueAt, configSize, copyVersionAt, copyGenerationAt}
+
+-- the bytes of a number, as many as the width says: "Numbers are least significant byte first."
+unfoldable pub bytesOf : ℕ → ℕ → List ℕ
+bytesOf zero x = []
+bytesOf (suc width) x = x % 256 ∷ bytesOf width (x / 256)
+
+-- bytes written from a place on; every other byte stays as it was
+unfoldable pub over : List ℕ → ℕ → List ℕ → List ℕ
+over t at bytes = take at t ++ (bytes ++ drop (at + length bytes) t)
+
+-- ---- the head
+unfoldable pub setOff : List ℕ → ℕ → List ℕ
+setOff t off = over t offAt (bytesOf 2 off)
+
+unfoldable pub setPolled : List ℕ → ℕ → List ℕ
+setPolled t polled = over t polledAt (bytesOf 2 polled)
+
+unfoldable pub setPuts : List ℕ → ℕ → ℕ → List ℕ
+setPuts t dataPuts configPuts = over t dataPutsAt (bytesOf 2 dataPuts ++ bytesOf 2 configPuts)
+
+-- a round of a kind on an item, with nothing polled and no puts, its value and its target
+unfoldable pub setRound : List ℕ → ℕ → ℕ → ℕ → List ℕ → List ℕ
+setRound t kind item value target =
+    over (over t kindAt (kind ∷ item ∷ replicate 6 0)) valueAt (bytesOf 8 value ++ target)
+
+-- the target of a round that has none
+abbrev pub noTarget : List ℕ
+noTarget = replicate configSize 0
+
+-- ---- one copy, from its first byte on
+unfoldable pub putData : List ℕ → ℕ → ℕ → ℕ → List ℕ
+putData t at version value = over t (at + copyVersionAt) (bytesOf 8 version ++ bytesOf 8 value)
+
+unfoldable pub putConfig : List ℕ → ℕ → ℕ → List ℕ → List ℕ
+putConfig t at generation config = over t (at + copyGenerationAt) (bytesOf 8 generation ++ config)
+
+-- the bytes of a whole copy
+unfoldable pub copyBytes : ℕ → ℕ → ℕ → List ℕ → List ℕ
+copyBytes version value generation config = bytesOf 8 version ++ (bytesOf 8 value ++ (bytesOf 8 generation ++ config))

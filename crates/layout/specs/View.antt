@@ -1,0 +1,32 @@
+-- What the rules know of a table: they speak of this state alone, and of no offset.
+use mathlib.Core.Bool.{Bool}
+use mathlib.Core.List.{List}
+use Prim.Native.Nat.{ℕ}
+use lib.ListN.{length}
+use lib.Dec.{eqb}
+use Rattle.layout.specs.Layout.{tableLength}
+use Rattle.layout.specs.Fields.{Copy, Round, stations, items, offSet, roundOf, copyOf}
+use Rattle.layout.specs.Soundness.{sound}
+
+pub record State : Type 0 where
+  -- the table is sound; its length is that of a table of so many stations and items
+  pub isSound : Bool
+  pub fits : ℕ → ℕ → Bool
+  -- n stations, m items, the stations off the bus, the round, the copy of each item at each station
+  pub n : ℕ
+  pub m : ℕ
+  pub off : ℕ
+  pub round : Round
+  pub copies : ℕ → ℕ → Copy
+
+unfoldable pub view : List ℕ → State
+view t =
+    record {
+      isSound = sound t;
+      fits = λ n m. eqb (length t) (tableLength n m);
+      n = stations t;
+      m = items t;
+      off = offSet t;
+      round = roundOf t;
+      copies = copyOf t;
+    }

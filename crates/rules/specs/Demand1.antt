@@ -1,0 +1,38 @@
+-- Demand 1, of the definitions: every call on any bytes and numbers has one reply and one table; "a refusal changes no byte and has
+-- zero figures"; nothing is touched but what is lent. That the code ends and equals these definitions is in its contracts.
+use mathlib.Core.Path.{_≡_}
+use mathlib.Core.Bool.{Bool, true, false}
+use mathlib.Core.List.{List}
+use Prim.Native.Nat.{ℕ, _≤_}
+use lib.ListN.{length}
+use Rattle.quorum.specs.Bytes.{AreBytes}
+use Rattle.rules.specs.Calls.{Call, lay, openRead, openWrite, openChange, poll, put, commit, abandon, link, reach}
+use Rattle.rules.specs.Passed.{Passable}
+use Rattle.rules.specs.Reply.{reply, after}
+use Rattle.rules.specs.declared.Reply.{Reply}
+
+abbrev pub ZeroFigures : Reply → Type 0
+ZeroFigures r = (r .first ≡ 0) × (r .second ≡ 0) × (r .third ≡ 0)
+
+-- the three calls with figures
+abbrev pub hasFigures : Call → Bool
+hasFigures (lay n m value config) = false
+hasFigures (openRead i) = false
+hasFigures (openWrite i value) = false
+hasFigures (openChange i target) = false
+hasFigures (poll s) = true
+hasFigures (put s sort) = false
+hasFigures commit = true
+hasFigures abandon = false
+hasFigures (link s state) = false
+hasFigures (reach i) = true
+
+pub record Demand1 : Type 0 where
+  pub refusal-changes-nothing : (t : List ℕ) (c : Call) → (reply t c .number ≡ 0 → ⊥) → after t c ≡ t
+  pub refusal-has-no-figures : (t : List ℕ) (c : Call) → (reply t c .number ≡ 0 → ⊥) → ZeroFigures (reply t c)
+  pub three-calls-have-figures : (t : List ℕ) (c : Call) → hasFigures c ≡ false → ZeroFigures (reply t c)
+  -- a number of document 01's table; 12 is the frame runner's
+  pub number-is-listed : (t : List ℕ) (c : Call) → reply t c .number ≤ 11
+  -- the table keeps its length, and stays a list of bytes
+  pub length-kept : (t : List ℕ) (c : Call) → length (after t c) ≡ length t
+  pub bytes-kept : (t : List ℕ) (c : Call) → AreBytes t → Passable c → AreBytes (after t c)

@@ -1,0 +1,68 @@
+-- Demand 2: "on a sound table a commit finishes exactly if the needed groups were heard and written and no counter it must raise is
+-- spent; otherwise it gets that one number." The groups are source 000's quorums, sections 3 and 5.4, by quantifiers over
+-- stations and places.
+use mathlib.Core.Path.{_≡_}
+use mathlib.Core.Bool.{true, false}
+use mathlib.Core.List.{List}
+use mathlib.Core.Logic.{_↔_, _⊎_}
+use Prim.Native.Nat.{ℕ, _-_, _^_, _≤_, _<_}
+use Rattle.quorum.specs.Sets.{member}
+use Rattle.quorum.specs.Configurations.{readSet, writeSet}
+use Rattle.quorum.specs.Promise.{Some, LiesIn}
+use Rattle.layout.specs.Fields.{Copy, Kind, none, read, write, change}
+use Rattle.layout.specs.Soundness.{sound}
+use Rattle.layout.specs.View.{State, view}
+use Rattle.rules.specs.Calls.{commit}
+use Rattle.rules.specs.Newest.{own}
+use Rattle.rules.specs.Reply.{reply}
+
+-- of the polled stations, b has the greatest key, and is the lowest that has it
+pub record Newest (key : ℕ → ℕ) (polled n b : ℕ) : Type 0 where
+  pub station : b < n
+  pub isPolled : member polled b ≡ true
+  pub greatest : (s : ℕ) → s < n → member polled s ≡ true → key s ≤ key b
+  pub lowest : (s : ℕ) → s < b → member polled s ≡ true → key s < key b
+
+-- some set of a side lies within a station set
+abbrev pub QuorumIn : (ℕ → ℕ) → ℕ → Type 0
+QuorumIn side set = Some 8 (LiesIn side set)
+
+-- what an open round has found: the stations with its newest generation and its newest version
+pub record Found (v : State) : Type 0 where
+  pub g : ℕ
+  pub b : ℕ
+  pub newestGeneration : Newest (λ s. own v s .generation) (v .round .polled) (v .n) g
+  pub newestVersion : Newest (λ s. own v s .version) (v .round .polled) (v .n) b
+
+-- a read quorum of the configuration found lies within the polled set
+abbrev pub Heard : (v : State) → Found v → Type 0
+Heard v f = QuorumIn (readSet (own v (f .g) .config)) (v .round .polled)
+
+-- the counter that the round must raise is spent
+abbrev pub Spent : (v : State) → Found v → Kind → Type 0
+Spent v f none = ⊥
+Spent v f read = ⊥
+Spent v f write = own v (f .b) .version ≡ 2 ^ 64 - 1
+Spent v f change = own v (f .g) .generation ≡ 2 ^ 64 - 1
+
+-- the write quorums that source 000 asks for lie within the put sets: of a write, one of the configuration found, by the data puts;
+-- of a change, one of the new configuration by the data puts and one of the old by the configuration puts (5.4.3, 5.4.4)
+abbrev pub Written : (v : State) → Found v → Kind → Type 0
+Written v f none = ⊥
+Written v f read = Unit {0}
+Written v f write = QuorumIn (writeSet (own v (f .g) .config)) (v .round .dataPuts)
+Written v f change =
+    QuorumIn (writeSet (v .round .target)) (v .round .dataPuts) × QuorumIn (writeSet (own v (f .g) .config)) (v .round .configPuts)
+
+-- commit's number on a sound table with an open round, by these conditions
+pub record Commits (v : State) (k : Kind) (number : ℕ) : Type 0 where
+  pub finished : (number ≡ 0) ↔ ((f : Found v) × Heard v f × (Spent v f k → ⊥) × Written v f k)
+  pub unheard : (number ≡ 8) ↔ ((f : Found v) → Heard v f → ⊥)
+  pub spent : (number ≡ 10) ↔ ((f : Found v) × Heard v f × Spent v f k)
+  pub short : (number ≡ 11) ↔ ((f : Found v) × Heard v f × (Spent v f k → ⊥) × (Written v f k → ⊥))
+  pub noOther : (number ≡ 0) ⊎ ((number ≡ 8) ⊎ ((number ≡ 10) ⊎ (number ≡ 11)))
+
+pub record Demand2 : Type 0 where
+  pub open-round : (t : List ℕ) → sound t ≡ true → (view t .round .kind ≡ none → ⊥) → Commits (view t) (view t .round .kind) (reply t commit .number)
+  pub no-round : (t : List ℕ) → sound t ≡ true → view t .round .kind ≡ none → reply t commit .number ≡ 5
+  pub unsound : (t : List ℕ) → sound t ≡ false → reply t commit .number ≡ 1

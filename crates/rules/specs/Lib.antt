@@ -1,0 +1,12 @@
+pub mod Calls
+pub mod Newest
+pub mod Rules
+pub mod Figures
+pub mod After
+pub mod Reply
+pub mod Book
+pub mod Passed
+pub mod Demand1
+pub mod Demand2
+pub mod Demand3
+pub mod SoundKept

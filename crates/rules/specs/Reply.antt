@@ -1,0 +1,28 @@
+-- The reply and the table of every input: "For each call, every input determines one reply and one table, refused calls too."
+use mathlib.Core.Bool.{cond}
+use mathlib.Core.List.{List}
+use Prim.Native.Nat.{ℕ}
+use lib.Dec.{eqb}
+use Rattle.layout.specs.View.{view}
+use Rattle.rules.specs.Calls.{Call}
+use Rattle.rules.specs.Rules.{numberOf}
+use Rattle.rules.specs.Figures.{Figures, figuresOf}
+use Rattle.rules.specs.After.{done}
+use Rattle.rules.specs.declared.Reply.{Reply}
+
+-- "Number 0 is done." A refusal has zero figures.
+abbrev pub answer : ℕ → Figures → Reply
+answer k f =
+    record {
+      number = k;
+      first = cond (eqb k 0) (f .first) 0;
+      second = cond (eqb k 0) (f .second) 0;
+      third = cond (eqb k 0) (f .third) 0;
+    }
+
+unfoldable pub reply : List ℕ → Call → Reply
+reply t c = answer (numberOf (view t) c) (figuresOf (view t) c)
+
+-- "A refusal leaves the table .. untouched"
+unfoldable pub after : List ℕ → Call → List ℕ
+after t c = cond (eqb (numberOf (view t) c) 0) (done t (view t) c) t

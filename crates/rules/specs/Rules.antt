@@ -1,0 +1,104 @@
+-- The number of each call's reply (document 01, "The calls" and the table of numbers).
+use mathlib.Core.Bool.{Bool, true, false, not, cond, _&&_, _||_}
+use mathlib.Core.List.{List, [], _∷_}
+use Prim.Native.Nat.{ℕ, _-_, _^_}
+use lib.Dec.{ltb, leb, eqb}
+use Rattle.quorum.specs.Sets.{member}
+use Rattle.quorum.specs.Configurations.{valid, holdsWrite}
+use Rattle.layout.specs.Fields.{Kind, none, read, write, change}
+use Rattle.layout.specs.View.{State}
+use Rattle.rules.specs.Calls.{Call, lay, openRead, openWrite, openChange, poll, put, commit, abandon, link, reach}
+use Rattle.rules.specs.Newest.{foundByVersion, foundByGeneration, heard}
+
+-- tests with their numbers, in the order in which they are made; the first that applies gives the number, 0 is done
+abbrev pub Chain : Type 0
+Chain = List (Bool × ℕ)
+
+unfoldable pub first : Chain → ℕ
+first [] = 0
+first (x ∷ rest) = cond (x .0) (x .1) (first rest)
+
+-- "2 no such thing: station, item, put sort, link state, n or m not listed above"
+abbrev pub noStation : State → ℕ → Bool
+noStation v s = not (ltb s (v .n))
+
+abbrev pub noItem : State → ℕ → Bool
+noItem v i = not (ltb i (v .m))
+
+abbrev pub noSort : ℕ → Bool
+noSort sort = not (eqb sort 1 || eqb sort 2)
+
+abbrev pub noLink : ℕ → Bool
+noLink state = not (eqb state 0 || eqb state 1)
+
+abbrev pub noSize : ℕ → ℕ → Bool
+noSize n m = not (leb 1 n && leb n 16 && leb 1 m && leb m 32)
+
+-- "4 busy: an opening while a round is open", "5 idle: .. without a round"
+abbrev pub idle : Kind → Bool
+idle none = true
+idle read = false
+idle write = false
+idle change = false
+
+abbrev pub isIdle : State → Bool
+isIdle v = idle (v .round .kind)
+
+-- "7 reading over: poll while a put set is not empty"
+abbrev pub readingOver : State → Bool
+readingOver v = not (eqb (v .round .dataPuts) 0 && eqb (v .round .configPuts) 0)
+
+-- "9 wrong put: a put in a read, a configuration put in a write"
+abbrev pub wrongPut : Kind → ℕ → Bool
+wrongPut none sort = true
+wrongPut read sort = true
+wrongPut write sort = eqb sort 2
+wrongPut change sort = false
+
+-- "10 spent: found version is 2^64 − 1 at a data put or commit of a write, or found generation at a configuration put or
+-- commit of a change"
+abbrev pub last : ℕ → Bool
+last counter = eqb counter (2 ^ 64 - 1)
+
+abbrev pub spent : State → Kind → Bool
+spent v none = false
+spent v read = false
+spent v write = last (foundByVersion v .version)
+spent v change = last (foundByGeneration v .generation)
+
+-- a data put of a change raises no counter
+abbrev pub spentAtPut : State → Kind → ℕ → Bool
+spentAtPut v none sort = false
+spentAtPut v read sort = false
+spentAtPut v write sort = spent v write
+spentAtPut v change sort = eqb sort 2 && spent v change
+
+-- "A write needs data puts that hold a write set of the found configuration. A change needs data puts that hold a write set
+-- of the target, and configuration puts that hold a write set of the old, found configuration (source 000, 5.4)."
+abbrev pub written : State → Kind → Bool
+written v none = true
+written v read = true
+written v write = holdsWrite (foundByGeneration v .config) (v .round .dataPuts)
+written v change = holdsWrite (v .round .target) (v .round .dataPuts) && holdsWrite (foundByGeneration v .config) (v .round .configPuts)
+
+-- "The lowest number that applies is given; lay tests 2, then 1, then 3."
+unfoldable pub refusals : State → Call → Chain
+refusals v (lay n m value config) = (noSize n m, 2) ∷ (not (v .fits n m), 1) ∷ (not (valid n config), 3) ∷ []
+refusals v (openRead i) = (not (v .isSound), 1) ∷ (noItem v i, 2) ∷ (not (isIdle v), 4) ∷ []
+refusals v (openWrite i value) = (not (v .isSound), 1) ∷ (noItem v i, 2) ∷ (not (isIdle v), 4) ∷ []
+refusals v (openChange i target) =
+    (not (v .isSound), 1) ∷ (noItem v i, 2) ∷ (not (valid (v .n) target), 3) ∷ (not (isIdle v), 4) ∷ []
+refusals v (poll s) =
+    (not (v .isSound), 1) ∷ (noStation v s, 2) ∷ (isIdle v, 5) ∷ (member (v .off) s, 6) ∷ (readingOver v, 7) ∷ []
+refusals v (put s sort) =
+    (not (v .isSound), 1) ∷ (noStation v s || noSort sort, 2) ∷ (isIdle v, 5) ∷ (member (v .off) s, 6) ∷ (not (heard v), 8)
+    ∷ (wrongPut (v .round .kind) sort, 9) ∷ (spentAtPut v (v .round .kind) sort, 10) ∷ []
+refusals v commit =
+    (not (v .isSound), 1) ∷ (isIdle v, 5) ∷ (not (heard v), 8) ∷ (spent v (v .round .kind), 10)
+    ∷ (not (written v (v .round .kind)), 11) ∷ []
+refusals v abandon = (not (v .isSound), 1) ∷ (isIdle v, 5) ∷ []
+refusals v (link s state) = (not (v .isSound), 1) ∷ (noStation v s || noLink state, 2) ∷ []
+refusals v (reach i) = (not (v .isSound), 1) ∷ (noItem v i, 2) ∷ []
+
+unfoldable pub numberOf : State → Call → ℕ
+numberOf v c = first (refusals v c)
