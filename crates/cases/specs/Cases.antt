@@ -1,0 +1,132 @@
+-- The starred cases of document 01, "Trays through the house", and the mistakes of "What growers' programs get wrong", as one table: on
+-- bytes, from a lay on, call by call.
+use mathlib.Core.Path.{_≡_}
+use mathlib.Core.List.{List, [], _∷_, _++_}
+use Prim.Native.Nat.{ℕ}
+use lib.ListN.{replicate}
+use Rattle.rules.specs.Calls.{Call, lay, openRead, openWrite, openChange, poll, put, commit, abandon, link}
+use Rattle.rules.specs.Reply.{reply, after}
+use Rattle.rules.specs.declared.Reply.{Reply}
+
+-- calls after the lay, and what the last of them gets: its number and three figures
+pub record Row : Type 0 where
+  pub calls : List Call
+  pub gets : Reply
+
+abbrev pub row : List Call → ℕ → ℕ → ℕ → ℕ → Row
+row calls number first second third =
+    record { calls = calls; gets = record { number = number; first = first; second = second; third = third } }
+
+-- ---- configurations: three sets of stations below 8 on each side
+abbrev pub side : ℕ → ℕ → ℕ → List ℕ
+side a b c = a ∷ 0 ∷ b ∷ 0 ∷ c ∷ 0 ∷ replicate 10 0
+
+-- "the pair sets 0003, 0005, 0006 on both sides"
+abbrev pub pairs : List ℕ
+pairs = side 3 5 6 ++ side 3 5 6
+
+-- "0004 on both sides"
+abbrev pub single : List ℕ
+single = side 4 0 0 ++ side 4 0 0
+
+-- "Read 0001 with write 0002"
+abbrev pub apart : List ℕ
+apart = side 1 0 0 ++ side 2 0 0
+
+-- "Places 0001, 0000, 0002", with a write set that meets both
+abbrev pub gap : List ℕ
+gap = side 1 0 2 ++ side 3 0 0
+
+-- ---- calls
+-- "A round polls 0 and 1 before its puts or commit unless the case says otherwise."
+abbrev pub round : Call → List Call → List Call
+round opening calls = opening ∷ poll 0 ∷ poll 1 ∷ calls
+
+-- a data put and a configuration put
+abbrev pub dataPut : ℕ → Call
+dataPut s = put s 1
+
+abbrev pub configPut : ℕ → Call
+configPut s = put s 2
+
+-- a finished write and a finished change that several rows begin with
+abbrev pub writes : List Call
+writes = round (openWrite 0 510) (dataPut 0 ∷ dataPut 1 ∷ commit ∷ [])
+
+abbrev pub changes : List Call
+changes = round (openChange 0 single) (dataPut 2 ∷ configPut 0 ∷ configPut 1 ∷ commit ∷ [])
+
+-- the same change with the configuration at every station
+abbrev pub everywhere : List Call
+everywhere = round (openChange 0 single) (dataPut 2 ∷ configPut 0 ∷ configPut 1 ∷ configPut 2 ∷ commit ∷ [])
+
+unfoldable pub table : List Row
+table =
+    -- the lay itself is done, and has no figures
+    row [] 0 0 0 0
+    -- ---- "Trays through the house"
+    -- "Polled {0}: unheard. Polled {0, 1}: heard."
+    ∷ row (openRead 0 ∷ poll 0 ∷ []) 0 0 0 0
+    ∷ row (openRead 0 ∷ poll 0 ∷ poll 1 ∷ []) 0 1 0 0
+    -- "Commit with nothing polled: 8."
+    ∷ row (openRead 0 ∷ commit ∷ []) 8 0 0 0
+    -- "Write 510, put at 0: commit 11. Put at 0, 1: version 1."
+    ∷ row (round (openWrite 0 510) (dataPut 0 ∷ commit ∷ [])) 11 0 0 0
+    ∷ row writes 0 510 1 0
+    -- "Then polling 1, 2 reads 510, version 1."
+    ∷ row (writes ++ (openRead 0 ∷ poll 1 ∷ poll 2 ∷ commit ∷ [])) 0 510 1 0
+    -- "Puts at 0, 1, station 1 drops: commit 11;"
+    ∷ row (round (openWrite 0 510) (dataPut 0 ∷ dataPut 1 ∷ link 1 0 ∷ commit ∷ [])) 11 0 0 0
+    -- "abandoned, reads that poll 0, 2 give the old value."
+    ∷ row (round (openWrite 0 510) (dataPut 0 ∷ dataPut 1 ∷ link 1 0 ∷ commit ∷ abandon ∷ openRead 0 ∷ poll 0 ∷ poll 2 ∷ commit ∷ [])) 0 500 0 0
+    -- "Change to 0004 on both sides, data put 2, configuration puts 0, 1: generation 1."
+    ∷ row changes 0 500 0 1
+    -- "Then polled {2} is unheard; {0, 2} is heard."
+    ∷ row (changes ++ (openRead 0 ∷ poll 2 ∷ [])) 0 0 0 0
+    ∷ row (changes ++ (openRead 0 ∷ poll 0 ∷ poll 2 ∷ [])) 0 1 0 0
+    -- "The same with the configuration put at 2 alone: 11."
+    ∷ row (round (openChange 0 single) (dataPut 2 ∷ configPut 2 ∷ commit ∷ [])) 11 0 0 0
+    -- "Read 0001 with write 0002: 3. Places 0001, 0000, 0002: 3." In a change and in a lay
+    ∷ row (openChange 0 apart ∷ []) 3 0 0 0
+    ∷ row (openChange 0 gap ∷ []) 3 0 0 0
+    ∷ row (lay 3 1 500 apart ∷ []) 3 0 0 0
+    ∷ row (lay 3 1 500 gap ∷ []) 3 0 0 0
+    -- ---- "What growers' programs get wrong"
+    -- "Counting a returned station's copy as new because it was heard last": station 2 was off during the write
+    ∷ row (link 2 0 ∷ writes ++ (link 2 1 ∷ openRead 0 ∷ poll 0 ∷ poll 2 ∷ commit ∷ [])) 0 510 1 0
+    -- "Letting an abandoned write show in a copy": a read polls the very stations that had its puts
+    ∷ row (round (openWrite 0 510) (dataPut 0 ∷ dataPut 1 ∷ abandon ∷ round (openRead 0) (commit ∷ []))) 0 500 0 0
+    -- "Testing the configuration puts against the target's write sets": in a change from 0004, which every station has, back to the
+    -- pairs, a configuration put at 2 holds a write set of the old configuration only, and the change is done; puts at 0, 1 hold one
+    -- of the target only, and it is not
+    ∷ row (everywhere ++ (openChange 0 pairs ∷ poll 2 ∷ dataPut 0 ∷ dataPut 1 ∷ configPut 2 ∷ commit ∷ [])) 0 500 0 2
+    ∷ row (everywhere ++ (openChange 0 pairs ∷ poll 2 ∷ dataPut 0 ∷ dataPut 1 ∷ configPut 0 ∷ configPut 1 ∷ commit ∷ [])) 11 0 0 0
+    -- "Taking the first configuration found, not the one of the highest generation": after a change with configuration puts 1, 2
+    -- station 0 still has the pairs, of which 0, 1 are one; station 1 has 0004, by which they are unheard
+    ∷ row (round (openChange 0 single) (dataPut 2 ∷ configPut 1 ∷ configPut 2 ∷ commit ∷ round (openRead 0) (commit ∷ []))) 8 0 0 0
+    -- "Raising the version in a change": not in the change's own figures, and not in those of a read after it
+    ∷ row (writes ++ changes) 0 510 1 1
+    ∷ row (writes ++ (changes ++ (openRead 0 ∷ poll 0 ∷ poll 2 ∷ commit ∷ []))) 0 510 1 1
+    ∷ []
+
+-- ---- the replies
+-- the reply to the last of a list of calls
+unfoldable pub lastReply : List ℕ → Call → List Call → Reply
+lastReply t c [] = reply t c
+lastReply t c (d ∷ calls) = lastReply (after t c) d calls
+
+-- "Three stations, one item, start 500, pair sets", laid over 224 bytes that are all 7
+abbrev pub replyOf : Row → Reply
+replyOf r = lastReply (replicate 224 7) (lay 3 1 500 pairs) (r .calls)
+
+abbrev pub replies : List Row → List Reply
+replies [] = []
+replies (r ∷ rows) = replyOf r ∷ replies rows
+
+abbrev pub expected : List Row → List Reply
+expected [] = []
+expected (r ∷ rows) = r .gets ∷ expected rows
+
+-- the theorem: each row gets the reply that it names
+abbrev pub Cases : Type 0
+Cases = replies table ≡ expected table

@@ -1,0 +1,231 @@
+-- Laws of chains of refusals: what the number of a chain says of its tests, and back; and what a call that is done has passed.
+use mathlib.Core.Path.{_≡_, refl, sym, ap, _∙_}
+use mathlib.Core.Bool.{Bool, true, false, not, cond, _&&_, _||_}
+use mathlib.Core.List.{[], _∷_}
+use mathlib.Core.Logic.{_↔_, _⊎_, inl, inr}
+use Prim.Native.Nat.{ℕ, zero, suc, _≤_, _<_}
+use native.Mathlib.Omega.{arith}
+use lib.ListN.{length}
+use lib.Dec.{ltb, leb, eqb}
+use borrow.Author.Tests.{ltb-true, leb-true, eqb-true, eqb-false, not-true, not-false}
+use Rattle.quorum.specs.Sets.{member}
+use Rattle.quorum.specs.Configurations.{valid}
+use Rattle.quorum.proofs.Tests.{clash, and-left, and-right, or-cases, or-false-left, or-false-right}
+use Rattle.layout.specs.Fields.{Kind, none, read, write, change}
+use Rattle.layout.specs.View.{State}
+use Rattle.rules.specs.Calls.{Call, lay, openRead, openWrite, openChange, poll, put, commit, abandon, link, reach}
+use Rattle.rules.specs.Newest.{heard}
+use Rattle.rules.specs.Rules.{Chain, first, refusals, numberOf, idle, noStation, wrongPut, spent, spentAtPut, written}
+
+-- ---- the places of a chain
+-- the number at a place; past the end it is 0, done
+abbrev pub numberAt : Chain → ℕ → ℕ
+numberAt [] i = 0
+numberAt (x ∷ l) zero = x .1
+numberAt (x ∷ l) (suc i) = numberAt l i
+
+-- the test at a place is the first that applies; past the end: none applies
+abbrev pub Applies : Chain → ℕ → Type 0
+Applies [] i = Unit {0}
+Applies (x ∷ l) zero = x .0 ≡ true
+Applies (x ∷ l) (suc i) = (x .0 ≡ false) × Applies l i
+
+-- every test failed
+abbrev pub Passed : Chain → Type 0
+Passed l = Applies l (length l)
+
+-- the numbers of a chain are 1 to 11, and no two are equal
+abbrev pub without : ℕ → Chain → Bool
+without k [] = not (eqb k 0)
+without k (x ∷ l) = not (eqb k (x .1)) && without k l
+
+abbrev pub proper : Chain → Bool
+proper [] = true
+proper (x ∷ l) = leb (x .1) 11 && (without (x .1) l && proper l)
+
+module _ (x : Bool × ℕ) (l : Chain) (p : proper (x ∷ l) ≡ true) where
+  small : x .1 ≤ 11
+  small = leb-true (x .1) 11 (and-left _ (without (x .1) l && proper l) p)
+
+  absent : without (x .1) l ≡ true
+  absent = and-left _ (proper l) (and-right (leb (x .1) 11) _ p)
+
+  rest : proper l ≡ true
+  rest = and-right (without (x .1) l) _ (and-right (leb (x .1) 11) _ p)
+
+-- a number that a chain is without stands at no place
+not-at : (k : ℕ) (l : Chain) (i : ℕ) → without k l ≡ true → k ≡ numberAt l i → ⊥
+not-at k [] i w = eqb-false k 0 (not-true (eqb k 0) w)
+not-at k (x ∷ l) zero w = eqb-false k (x .1) (not-true (eqb k (x .1)) (and-left _ (without k l) w))
+not-at k (x ∷ l) (suc i) w = not-at k l i (and-right (not (eqb k (x .1))) _ w)
+
+-- ---- the number of a chain
+-- the first test that applies gives its number
+gives : (l : Chain) (i : ℕ) → Applies l i → first l ≡ numberAt l i
+unfolding first
+gives [] i a = refl
+gives (x ∷ l) zero a = rw a
+gives (x ∷ l) (suc i) a = rw (a .0) (gives l i (a .1))
+
+-- a test that fails gives no number
+pub next : (x : Bool × ℕ) (l : Chain) → x .0 ≡ false → first (x ∷ l) ≡ first l
+unfolding first
+next x l e = rw e
+
+-- one is the first, or none applies
+somewhere : (l : Chain) → (i : ℕ) × Applies l i
+somewhere [] = (0, tt)
+somewhere (x ∷ l) = go (x .0) refl (somewhere l)
+  where
+    go : (b : Bool) → x .0 ≡ b → (i : ℕ) × Applies l i → (i : ℕ) × Applies (x ∷ l) i
+    go true e r = (0, e)
+    go false e r = (suc (r .0), (e, r .1))
+
+-- so the number tells the place
+says : (l : Chain) → proper l ≡ true → (i : ℕ) → first l ≡ numberAt l i → Applies l i
+unfolding first
+says [] p i e = tt
+says (x ∷ l) p zero e = go (x .0) e
+  where
+    go : (b : Bool) → cond b (x .1) (first l) ≡ x .1 → b ≡ true
+    go true e = refl
+    go false e = let s = somewhere l in absurd (not-at (x .1) l (s .0) (absent x l p) (sym e ∙ gives l (s .0) (s .1)))
+says (x ∷ l) p (suc i) e = go (x .0) (says l (rest x l p) i) e
+  where
+    go : (b : Bool) → (first l ≡ numberAt l i → Applies l i) → cond b (x .1) (first l) ≡ numberAt l i → (b ≡ false) × Applies l i
+    go true f e = absurd (not-at (x .1) l i (absent x l p) e)
+    go false f e = (refl, f e)
+
+-- the number is that of a place exactly if the test there is the first that applies
+pub exactly : (l : Chain) → proper l ≡ true → (i : ℕ) → (first l ≡ numberAt l i) ↔ Applies l i
+exactly l p i = (says l p i, gives l i)
+
+-- a number of 0 means that every test failed
+pub passed : (l : Chain) → proper l ≡ true → first l ≡ 0 → Passed l
+passed l p e = says l p (length l) (e ∙ sym (end l))
+  where
+    end : (l : Chain) → numberAt l (length l) ≡ 0
+    end [] = refl
+    end (x ∷ l) = end l
+
+pub at-most-11 : (l : Chain) → proper l ≡ true → first l ≤ 11
+unfolding first
+at-most-11 [] p = omega arith
+at-most-11 (x ∷ l) p = go (x .0) (at-most-11 l (rest x l p))
+  where
+    go : (b : Bool) → first l ≤ 11 → cond b (x .1) (first l) ≤ 11
+    go true h = small x l p
+    go false h = h
+
+-- ---- the chains of the calls
+pub proper-refusals : (v : State) (c : Call) → proper (refusals v c) ≡ true
+unfolding refusals
+proper-refusals v (lay n m value config) = refl
+proper-refusals v (openRead i) = refl
+proper-refusals v (openWrite i value) = refl
+proper-refusals v (openChange i target) = refl
+proper-refusals v (poll s) = refl
+proper-refusals v (put s sort) = refl
+proper-refusals v commit = refl
+proper-refusals v abandon = refl
+proper-refusals v (link s state) = refl
+proper-refusals v (reach i) = refl
+
+-- ---- what a call with number 0 has passed
+-- the tests as facts, in the order of the numbers
+abbrev pub Allowed : State → Call → Type 0
+Allowed v (lay n m value config) =
+    ((1 ≤ n) × (n ≤ 16) × (1 ≤ m) × (m ≤ 32)) × (v .fits n m ≡ true) × (valid n config ≡ true)
+Allowed v (openRead i) = (v .isSound ≡ true) × (i < v .m) × (v .round .kind ≡ none)
+Allowed v (openWrite i value) = (v .isSound ≡ true) × (i < v .m) × (v .round .kind ≡ none)
+Allowed v (openChange i target) = (v .isSound ≡ true) × (i < v .m) × (valid (v .n) target ≡ true) × (v .round .kind ≡ none)
+Allowed v (poll s) =
+    (v .isSound ≡ true) × (s < v .n) × (v .round .kind ≡ none → ⊥) × (member (v .off) s ≡ false)
+    × ((v .round .dataPuts ≡ 0) × (v .round .configPuts ≡ 0))
+Allowed v (put s sort) =
+    (v .isSound ≡ true) × ((s < v .n) × ((sort ≡ 1) ⊎ (sort ≡ 2))) × (v .round .kind ≡ none → ⊥) × (member (v .off) s ≡ false)
+    × (heard v ≡ true) × (wrongPut (v .round .kind) sort ≡ false) × (spentAtPut v (v .round .kind) sort ≡ false)
+Allowed v commit =
+    (v .isSound ≡ true) × (v .round .kind ≡ none → ⊥) × (heard v ≡ true) × (spent v (v .round .kind) ≡ false)
+    × (written v (v .round .kind) ≡ true)
+Allowed v abandon = (v .isSound ≡ true) × (v .round .kind ≡ none → ⊥)
+Allowed v (link s state) = (v .isSound ≡ true) × ((s < v .n) × ((state ≡ 0) ⊎ (state ≡ 1)))
+Allowed v (reach i) = (v .isSound ≡ true) × (i < v .m)
+
+pub idle-none : (k : Kind) → idle k ≡ true → k ≡ none
+idle-none none e = refl
+idle-none read e = clash refl (sym e)
+idle-none write e = clash refl (sym e)
+idle-none change e = clash refl (sym e)
+
+pub open-busy : (k : Kind) → (k ≡ none → ⊥) → idle k ≡ false
+open-busy none h = absurd (h refl)
+open-busy read h = refl
+open-busy write h = refl
+open-busy change h = refl
+
+pub busy-open : (k : Kind) → idle k ≡ false → k ≡ none → ⊥
+busy-open k e h = clash (ap idle h) e
+
+below : (a b : ℕ) → not (ltb a b) ≡ false → a < b
+below a b e = ltb-true a b (not-false (ltb a b) e)
+
+one-of : (a x y : ℕ) → not (eqb a x || eqb a y) ≡ false → (a ≡ x) ⊎ (a ≡ y)
+one-of a x y e = or-cases (eqb a x) (eqb a y) (not-false _ e) (λ h. inl (eqb-true a x h)) (λ h. inr (eqb-true a y h))
+
+pub allowed : (v : State) (c : Call) → numberOf v c ≡ 0 → Allowed v c
+unfolding refusals numberOf
+allowed v c e = facts c (passed (refusals v c) (proper-refusals v c) e)
+  where
+    sized : (n m : ℕ) → (leb 1 n && leb n 16 && leb 1 m && leb m 32) ≡ true → (1 ≤ n) × (n ≤ 16) × (1 ≤ m) × (m ≤ 32)
+    sized n m h =
+        let three = and-left _ (leb m 32) h in
+        let two = and-left _ (leb 1 m) three in (
+          leb-true 1 n (and-left _ (leb n 16) two),
+          leb-true n 16 (and-right (leb 1 n) _ two),
+          leb-true 1 m (and-right (leb 1 n && leb n 16) _ three),
+          leb-true m 32 (and-right (leb 1 n && leb n 16 && leb 1 m) _ h),
+        )
+
+    empty : (a b : ℕ) → (eqb a 0 && eqb b 0) ≡ true → (a ≡ 0) × (b ≡ 0)
+    empty a b h = (eqb-true a 0 (and-left _ (eqb b 0) h), eqb-true b 0 (and-right (eqb a 0) _ h))
+
+    at-station : (s a x y : ℕ) → (noStation v s || not (eqb a x || eqb a y)) ≡ false → (s < v .n) × ((a ≡ x) ⊎ (a ≡ y))
+    at-station s a x y h = (below s (v .n) (or-false-left _ _ h), one-of a x y (or-false-right (noStation v s) _ h))
+
+    facts : (c : Call) → Passed (refusals v c) → Allowed v c
+    facts (lay n m value config) p = (sized n m (not-false _ (p .0)), not-false _ (p .1 .0), not-false _ (p .1 .1 .0))
+    facts (openRead i) p = (not-false _ (p .0), below i (v .m) (p .1 .0), idle-none _ (not-false _ (p .1 .1 .0)))
+    facts (openWrite i value) p = (not-false _ (p .0), below i (v .m) (p .1 .0), idle-none _ (not-false _ (p .1 .1 .0)))
+    facts (openChange i target) p = (
+      not-false _ (p .0),
+      below i (v .m) (p .1 .0),
+      not-false _ (p .1 .1 .0),
+      idle-none _ (not-false _ (p .1 .1 .1 .0)),
+    )
+    facts (poll s) p = (
+      not-false _ (p .0),
+      below s (v .n) (p .1 .0),
+      busy-open _ (p .1 .1 .0),
+      p .1 .1 .1 .0,
+      empty (v .round .dataPuts) (v .round .configPuts) (not-false _ (p .1 .1 .1 .1 .0)),
+    )
+    facts (put s sort) p = (
+      not-false _ (p .0),
+      at-station s sort 1 2 (p .1 .0),
+      busy-open _ (p .1 .1 .0),
+      p .1 .1 .1 .0,
+      not-false _ (p .1 .1 .1 .1 .0),
+      p .1 .1 .1 .1 .1 .0,
+      p .1 .1 .1 .1 .1 .1 .0,
+    )
+    facts commit p = (
+      not-false _ (p .0),
+      busy-open _ (p .1 .0),
+      not-false _ (p .1 .1 .0),
+      p .1 .1 .1 .0,
+      not-false _ (p .1 .1 .1 .1 .0),
+    )
+    facts abandon p = (not-false _ (p .0), busy-open _ (p .1 .0))
+    facts (link s state) p = (not-false _ (p .0), at-station s state 0 1 (p .1 .0))
+    facts (reach i) p = (not-false _ (p .0), below i (v .m) (p .1 .0))

@@ -1,0 +1,14 @@
+pub mod Chains
+pub mod Newest
+pub mod Demand1
+pub mod Demand2
+pub mod Stored
+pub mod States
+pub mod Views
+pub mod Kept
+pub mod Lengths
+pub mod Copies
+pub mod Book
+pub mod Tested
+pub mod Demand3
+pub mod Demands

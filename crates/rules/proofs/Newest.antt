@@ -1,0 +1,134 @@
+-- The newest copy by a key, by its record `Newest`: the station that `newest` gives is the one that has the greatest key of the stations in
+-- the set, and of several the lowest.
+use mathlib.Core.Path.{_≡_, refl, ap}
+use mathlib.Core.Bool.{Bool, true, false, cond}
+use mathlib.Core.List.{[]}
+use mathlib.Core.Option.{Option, none, some}
+use Prim.Native.Nat.{ℕ, zero, suc, _≤_, _<_}
+use native.Mathlib.Nat.{not-suc-le-zero, le-antisymm}
+use native.Mathlib.Omega.{arith}
+use lib.Dec.{ltb}
+use borrow.Author.Tests.{ltb-true, ltb-false}
+use Rattle.quorum.specs.Sets.{member}
+use Rattle.quorum.specs.Configurations.{holdsRead}
+use Rattle.quorum.proofs.Tests.{clash, by-cases, below-suc}
+use Rattle.quorum.proofs.Promise.{promise}
+use Rattle.layout.specs.Fields.{Copy}
+use Rattle.rules.specs.Newest.{newest, newer, copyOr, byVersion, byGeneration, hears}
+use Rattle.rules.specs.Demand2.{Newest}
+
+-- what `newest` gives
+abbrev pub IsNewest : (ℕ → ℕ) → ℕ → ℕ → Option ℕ → Type 0
+IsNewest key set n none = (s : ℕ) → s < n → member set s ≡ false
+IsNewest key set n (some b) = Newest key set n b
+
+module _ (key : ℕ → ℕ) (set : ℕ) where
+  -- one more station: it is the newest if its key is greater, or if it is the first in the set
+  later : (k : ℕ) → member set k ≡ true → ((s : ℕ) → s < k → member set s ≡ true → key s < key k) → Newest key set (suc k) k
+  later k m less =
+      record {
+        station = omega arith;
+        isPolled = m;
+        greatest = below-suc (λ (s : ℕ). member set s ≡ true → key s ≤ key k) k (λ s h p. let q = less s h p in omega arith) (λ p. omega arith);
+        lowest = less;
+      }
+
+  -- and leaves the newest as it was if not
+  kept : (k b : ℕ) → Newest key set k b → (member set k ≡ true → key k ≤ key b) → Newest key set (suc k) b
+  kept k b h last =
+      record {
+        station = let q = h .station in omega arith;
+        isPolled = h .isPolled;
+        greatest = below-suc (λ (s : ℕ). member set s ≡ true → key s ≤ key b) k (h .greatest) last;
+        lowest = h .lowest;
+      }
+
+  pub is-newest : (n : ℕ) → IsNewest key set n (newest key set n)
+  unfolding newest
+  is-newest zero = λ s h. absurd (not-suc-le-zero h)
+  is-newest (suc k) = go (newest key set k) (is-newest k) (member set k) refl
+    where
+      pick : (b : ℕ) → Newest key set k b → member set k ≡ true → (t : Bool) → ltb (key b) (key k) ≡ t
+          → IsNewest key set (suc k) (cond t (some k) (some b))
+      pick b h m true e =
+          let l = ltb-true (key b) (key k) e in later k m (λ s hs p. let g = h .greatest s hs p in omega arith)
+      pick b h m false e = kept k b h (λ p. ltb-false (key b) (key k) e)
+
+      go : (o : Option ℕ) → IsNewest key set k o → (t : Bool) → member set k ≡ t → IsNewest key set (suc k) (cond t (newer key k o) o)
+      go none h true m = later k m (λ s hs p. clash p (h s hs))
+      go none h false m = below-suc (λ (s : ℕ). member set s ≡ false) k h m
+      go (some b) h true m = pick b h m (ltb (key b) (key k)) refl
+      go (some b) h false m = kept k b h (λ p. clash p m)
+
+  module _ (n : ℕ) where
+    pub newest-some : (b : ℕ) → newest key set n ≡ some b → Newest key set n b
+    newest-some b e = rw e at (is-newest n)
+
+    pub newest-none : newest key set n ≡ none → (s : ℕ) → s < n → member set s ≡ false
+    newest-none e = rw e at (is-newest n)
+
+    -- there is one newest: of two, neither is the lower
+    not-lower : (a b : ℕ) → Newest key set n a → Newest key set n b → b ≤ a
+    not-lower a b p q =
+        by-cases (λ (t : Bool). ltb a b ≡ t → b ≤ a) (ltb a b)
+        (λ _ e. let l = q .lowest a (ltb-true a b e) (p .isPolled) in let g = p .greatest b (q .station) (q .isPolled) in absurd (omega arith))
+        (λ _ e. ltb-false a b e) refl
+
+    pub same-newest : (a b : ℕ) → Newest key set n a → Newest key set n b → a ≡ b
+    same-newest a b p q = le-antisymm (not-lower b a q p) (not-lower a b p q)
+
+    pub newest-is : (b : ℕ) → Newest key set n b → newest key set n ≡ some b
+    newest-is b h = go (newest key set n) (is-newest n)
+      where
+        go : (o : Option ℕ) → IsNewest key set n o → o ≡ some b
+        go none f = clash (h .isPolled) (f b (h .station))
+        go (some a) f = ap some (same-newest a b f h)
+
+    -- with a station of the set there is a newest
+    pub some-newest : (s : ℕ) → s < n → member set s ≡ true → (b : ℕ) × Newest key set n b
+    some-newest s l m = go (newest key set n) (is-newest n)
+      where
+        go : (o : Option ℕ) → IsNewest key set n o → (b : ℕ) × Newest key set n b
+        go none f = clash m (f s l)
+        go (some b) f = (b, f)
+
+-- ---- the copies that it gives
+module _ (copies : ℕ → Copy) (set n : ℕ) where
+  pub by-version : (b : ℕ) → Newest (λ s. copies s .version) set n b → byVersion copies set n ≡ copies b
+  unfolding byVersion
+  by-version b h = ap (copyOr copies) (newest-is (λ s. copies s .version) set n b h)
+
+  pub by-generation : (b : ℕ) → Newest (λ s. copies s .generation) set n b → byGeneration copies set n ≡ copies b
+  unfolding byGeneration
+  by-generation b h = ap (copyOr copies) (newest-is (λ s. copies s .generation) set n b h)
+
+  -- what the copies of a set with a station give
+  pub record Finds : Type 0 where
+    pub b : ℕ
+    pub newestVersion : Newest (λ s. copies s .version) set n b
+    pub version : byVersion copies set n ≡ copies b
+    pub g : ℕ
+    pub newestGeneration : Newest (λ s. copies s .generation) set n g
+    pub generation : byGeneration copies set n ≡ copies g
+
+  pub finds : (s : ℕ) → s < n → member set s ≡ true → Finds
+  finds s l m =
+      let x = some-newest (λ s. copies s .version) set n s l m in
+      let y = some-newest (λ s. copies s .generation) set n s l m in
+      record {
+        b = x .0;
+        newestVersion = x .1;
+        version = by-version (x .0) (x .1);
+        g = y .0;
+        newestGeneration = y .1;
+        generation = by-generation (y .0) (y .1);
+      }
+
+  -- a set that hears has a station: with none, the configuration is no list of 32 bytes, and has no sets
+  pub heard-finds : hears copies set n ≡ true → Finds
+  unfolding hears byGeneration
+  heard-finds e = go (newest (λ s. copies s .generation) set n) (is-newest (λ s. copies s .generation) set n) e
+    where
+      go : (o : Option ℕ) → IsNewest (λ s. copies s .generation) set n o → holdsRead (copyOr copies o .config) set ≡ true → Finds
+      go none f h = clash h (promise .short-read [] set (λ z. absurd (omega arith)))
+      go (some s) f h = finds s (f .station) (f .isPolled)
