@@ -3,3 +3,4 @@ pub mod Fields
 pub mod Soundness
 pub mod View
 pub mod Updates
+pub mod Scan

@@ -1,1 +1,5 @@
 // The bytes of the table.
+pub mod copy;
+pub mod head;
+pub mod number;
+pub mod sound;

@@ -23,7 +23,7 @@ unfolding reply
 refusal-has-no-figures t c h = rw (ne-eqb (numberOf (view t) c) 0 h) (refl, refl, refl)
 
 -- a call without figures has none whether it is done or refused
-without-figures : (v : State) (c : Call) → hasFigures c ≡ false → figuresOf v c ≡ noFigures
+pub without-figures : (v : State) (c : Call) → hasFigures c ≡ false → figuresOf v c ≡ noFigures
 unfolding figuresOf
 without-figures v (lay n m value config) h = refl
 without-figures v (openRead i) h = refl

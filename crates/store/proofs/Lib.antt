@@ -1,0 +1,4 @@
+pub mod Search
+pub mod Refusals
+pub mod Writes
+pub mod Replies

@@ -1,0 +1,39 @@
+use Rattle.store.proofs.Replies.{commit-refused, commit-sound, commit-finished}
+use Rattle.store.proofs.Refusals.{long}
+use Rattle.layout.proofs.Soundness.{sound-facts}
+use borrow.Author.Needs.{needs}
+use Rattle.store.proofs.calls.ospreyscreen_commit.Statement.{statement}
+use Rattle.store.proofs.calls.ospreyscreen_commit.Tie as tie
+
+commit-reply-requires : tie.Need-commit-reply-requires
+commit-reply-requires c κs = search needs
+
+same-length : tie.Need-same-length
+same-length c = search needs
+
+returns : tie.Need-returns
+returns c = commit-refused _ (c .before .before .commit-reply .ensures) (c .if1 .taken)
+
+put-copies-requires : tie.Need-put-copies-requires
+put-copies-requires c κs = commit-sound _ (c .before .before .before .commit-reply .ensures) (c .before .if1 .left)
+
+set-round-requires : tie.Need-set-round-requires
+set-round-requires c κs = rw (c .before .before .before .put-copies .kept .0) (long _ (sound-facts _ (commit-sound _ (c .before .before .before .before .before .before .before .commit-reply .ensures) (c .before .before .before .before .before .if1 .left))))
+
+same-length-2 : tie.Need-same-length-2
+same-length-2 c = search needs
+
+returns-2 : tie.Need-returns-2
+returns-2 c = commit-finished _ (c .before .before .before .before .before .before .before .before .before .before .commit-reply .ensures) (c .before .before .before .before .before .before .before .before .if1 .left) (c .before .before .before .before .before .before .put-copies .ensures) (c .before .before .set-round .ensures)
+
+pub ospreyscreen-commit-spec : {M : Type 1} → statement M
+ospreyscreen-commit-spec =
+    tie.close
+    (tie.spec
+    commit-reply-requires
+    same-length
+    returns
+    put-copies-requires
+    set-round-requires
+    same-length-2
+    returns-2)

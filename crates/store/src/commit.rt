@@ -1,0 +1,136 @@
+// Commit's reply, by what the round has found. Nothing is changed here.
+ghost use mathlib.Core.Path.{_≡_};
+ghost use mathlib.Core.Bool.{true};
+ghost use Rattle.layout.specs.Fields.{read, write, change};
+ghost use Rattle.layout.specs.Soundness.{sound};
+ghost use Rattle.layout.specs.View.{view};
+ghost use Rattle.rules.specs.Calls.{commit};
+ghost use Rattle.rules.specs.Reply.{reply};
+ghost use Rattle.store.specs.Commit.{closingReply};
+use crate::newest::config_of;
+use crate::newest::generation_of;
+use crate::newest::is_heard;
+use crate::newest::newest_generation;
+use crate::newest::newest_version;
+use crate::newest::value_of;
+use crate::newest::version_of;
+use crate::number::IDLE;
+use crate::number::NO_ROUND;
+use crate::number::READ;
+use crate::number::SHORT;
+use crate::number::SPENT;
+use crate::number::UNHEARD;
+use crate::number::UNSOUND;
+use crate::number::WRITE;
+use layout::head::config_puts;
+use layout::head::data_puts;
+use layout::head::item;
+use layout::head::kind;
+use layout::head::polled;
+use layout::head::target;
+use layout::head::value;
+use layout::sound::is_sound;
+use rules::Reply;
+
+// A reply with zero figures.
+pub fn plain(number: u64) -> Reply
+    ensures { λ r. ⌜ r ≡ record { number = number; first = 0; second = 0; third = 0 } ⌝ }
+{
+    Reply {
+        number,
+        first: 0,
+        second: 0,
+        third: 0,
+    }
+}
+
+pub fn commit_reply(t: &[u8]) -> Reply
+    ensures { λ r. ⌜ r ≡ reply (now (t .entry)) commit ⌝ }
+{
+    if !is_sound(t) {
+        return plain(UNSOUND);
+    }
+    let k = kind(t);
+    if k == NO_ROUND {
+        return plain(IDLE);
+    }
+    if !is_heard(t, item(t), polled(t)) {
+        return plain(UNHEARD);
+    }
+    if k == READ {
+        return read_reply(t);
+    }
+    if k == WRITE {
+        return write_reply(t);
+    }
+    change_reply(t)
+}
+
+// A heard read: what it found.
+fn read_reply(t: &[u8]) -> Reply
+    requires { ⌜ sound (now t) ≡ true ⌝ }
+    ensures { λ r. ⌜ r ≡ closingReply (view (now (t .entry))) read ⌝ }
+{
+    let i = item(t);
+    let stations = polled(t);
+    let b = newest_version(t, i, stations);
+    let g = newest_generation(t, i, stations);
+    Reply {
+        number: 0,
+        first: value_of(t, i, b),
+        second: version_of(t, i, b).0,
+        third: generation_of(t, i, g).0,
+    }
+}
+
+// A heard write: its value with the next version, if its data puts hold a write set of the configuration found.
+fn write_reply(t: &[u8]) -> Reply
+    requires { ⌜ sound (now t) ≡ true ⌝ }
+    ensures { λ r. ⌜ r ≡ closingReply (view (now (t .entry))) write ⌝ }
+{
+    let i = item(t);
+    let stations = polled(t);
+    let b = newest_version(t, i, stations);
+    let g = newest_generation(t, i, stations);
+    let version = version_of(t, i, b);
+    if version.is_last() {
+        return plain(SPENT);
+    }
+    if !quorum::holds_write_set(config_of(t, i, g), data_puts(t)) {
+        return plain(SHORT);
+    }
+    Reply {
+        number: 0,
+        first: value(t),
+        second: version.next().0,
+        third: generation_of(t, i, g).0,
+    }
+}
+
+// A heard change: the next generation, if its data puts hold a write set of the target and its configuration puts one of the
+// configuration found.
+fn change_reply(t: &[u8]) -> Reply
+    requires { ⌜ sound (now t) ≡ true ⌝ }
+    ensures { λ r. ⌜ r ≡ closingReply (view (now (t .entry))) change ⌝ }
+{
+    let i = item(t);
+    let stations = polled(t);
+    let b = newest_version(t, i, stations);
+    let g = newest_generation(t, i, stations);
+    let generation = generation_of(t, i, g);
+    if generation.is_last() {
+        return plain(SPENT);
+    }
+    if !quorum::holds_write_set(target(t), data_puts(t)) {
+        return plain(SHORT);
+    }
+    if !quorum::holds_write_set(config_of(t, i, g), config_puts(t)) {
+        return plain(SHORT);
+    }
+    Reply {
+        number: 0,
+        first: value_of(t, i, b),
+        second: version_of(t, i, b).0,
+        third: generation.next().0,
+    }
+}

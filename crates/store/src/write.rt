@@ -1,0 +1,135 @@
+// What commit and lay write.
+ghost use mathlib.Core.Path.{_≡_};
+ghost use mathlib.Core.Bool.{true, cond};
+ghost use Prim.Native.Nat.{_+_, _*_, _≤_, min};
+ghost use lib.ListN.{length};
+ghost use Rattle.quorum.specs.Bytes.{part};
+ghost use Rattle.layout.specs.Layout.{headSize, copySize, configSize, tableLength};
+ghost use Rattle.layout.specs.Fields.{stations};
+ghost use Rattle.layout.specs.Soundness.{sound};
+ghost use Rattle.layout.specs.Updates.{putData, putConfig, over, copyBytes};
+ghost use Rattle.layout.specs.View.{view};
+ghost use Rattle.rules.specs.After.{putCopies, repeated, laid};
+use layout::copy::COPY_SIZE;
+use layout::copy::Generation;
+use layout::copy::Version;
+use layout::copy::address;
+use layout::copy::put_config;
+use layout::copy::put_data;
+use layout::head::HEAD_SIZE;
+use layout::head::OFF_AT;
+use layout::head::STATIONS_AT;
+use layout::head::TARGET_AT;
+use layout::head::config_puts;
+use layout::head::data_puts;
+use layout::head::item;
+use layout::head::stations;
+use layout::number::CONFIG_SIZE;
+use layout::number::config_bytes_at;
+use layout::number::put_pair;
+
+// Version and value into the copy at a place, if its station has a data put.
+fn put_data_if(t: &mut [u8], at: usize, put: bool, version: Version, value: u64)
+    requires { ⌜ at + copySize ≤ length (now t) ⌝ }
+    ensures { λ _. ⌜ now (t .exit) ≡ cond put (putData (now (t .entry)) at (version .0) value) (now (t .entry)) ⌝ }
+{
+    if put {
+        put_data(t, at, version, value)
+    }
+}
+
+// Generation and configuration into the copy at a place, if its station has a configuration put.
+fn put_config_if(
+    t: &mut [u8],
+    at: usize,
+    put: bool,
+    generation: Generation,
+    config: [u8; CONFIG_SIZE],
+)
+    requires { ⌜ at + copySize ≤ length (now t) ⌝ }
+    ensures { λ _. ⌜ now (t .exit) ≡ cond put (putConfig (now (t .entry)) at (generation .0) config) (now (t .entry)) ⌝ }
+{
+    if put {
+        put_config(t, at, generation, config)
+    }
+}
+
+// Every put of the open round takes effect.
+pub fn put_copies(t: &mut [u8], value: u64, version: Version, generation: Generation)
+    requires { ⌜ sound (now t) ≡ true ⌝ }
+    ensures { λ _. ⌜ now (t .exit) ≡ putCopies (now (t .entry)) (view (now (t .entry))) (record { first = value; second = version .0; third = generation .0 }) (stations (now (t .entry))) ⌝ }
+{
+    let n = stations(t);
+    let i = item(t);
+    let data = data_puts(t);
+    let config = config_puts(t);
+    let target = config_bytes_at(t, TARGET_AT);
+    for s in 0..n {
+        let at = address(n, i, s);
+        put_data_if(t, at, quorum::is_member(data, s), version, value);
+        put_config_if(t, at, quorum::is_member(config, s), generation, target);
+    }
+}
+
+// The most bytes that are copied at once: half of the copies of the largest table.
+const BLOCK_SIZE: usize = 256 * COPY_SIZE;
+
+// Writes bytes of another list, as many as the count says.
+fn put_part(to: &mut [u8], at: usize, from: &[u8], start: usize, count: usize)
+    requires { ⌜ (at + count ≤ length (now to)) × (start + count ≤ length (now from)) ⌝ }
+    ensures { λ _. ⌜ now (to .exit) ≡ over (now (to .entry)) at (part (now (from .entry)) start count) ⌝ }
+{
+    for k in 0..count {
+        to[at + k] = from[start + k];
+    }
+}
+
+// Writes the first bytes behind the head once more, as many as the count says. The compiler leaves the block out and makes
+// this one move of memory.
+fn copy_again(t: &mut [u8], to: usize, count: usize)
+    requires { ⌜ (count ≤ 256 * copySize) × (headSize + count ≤ length (now t)) × (to + count ≤ length (now t)) ⌝ }
+    ensures { λ _. ⌜ now (t .exit) ≡ over (now (t .entry)) to (part (now (t .entry)) headSize count) ⌝ }
+{
+    let mut block = [0u8; BLOCK_SIZE];
+    put_part(&mut block, 0, t, HEAD_SIZE, count);
+    put_part(t, to, &block, 0, count)
+}
+
+// The smaller of two numbers.
+fn least(a: usize, b: usize) -> usize
+    ensures { λ r. ⌜ r ≡ min a b ⌝ }
+{
+    if a < b { a } else { b }
+}
+
+// Writes the first copy.
+fn lay_first(t: &mut [u8], value: u64, config: &[u8])
+    requires { ⌜ (headSize + copySize ≤ length (now t)) × (length (now config) ≡ configSize) ⌝ }
+    ensures { λ _. ⌜ now (t .exit) ≡ over (now (t .entry)) headSize (copyBytes 0 value 0 (now (config .entry))) ⌝ }
+{
+    put_data(t, HEAD_SIZE, Version(0), value);
+    put_config(t, HEAD_SIZE, Generation(0), config_bytes_at(config, 0))
+}
+
+// Makes all copies like the first. Each turn writes the copies that are there once more behind them, and so doubles them.
+fn lay_rest(t: &mut [u8], copies: usize)
+    requires { ⌜ (1 ≤ copies) × (copies ≤ 512) × (headSize + copySize * copies ≤ length (now t)) ⌝ }
+    ensures { λ _. ⌜ now (t .exit) ≡ over (now (t .entry)) headSize (repeated copies (part (now (t .entry)) headSize copySize)) ⌝ }
+{
+    let mut k: usize = 1;
+    while k < copies {
+        let more = least(k, copies - k);
+        copy_again(t, HEAD_SIZE + COPY_SIZE * k, COPY_SIZE * more);
+        k += more;
+    }
+}
+
+// Writes every byte of a table: its head with no round, and its copies, all alike.
+pub fn lay_bytes(t: &mut [u8], n: u64, m: u64, value: u64, config: &[u8])
+    requires { ⌜ (1 ≤ n) × (n ≤ 16) × (1 ≤ m) × (m ≤ 32) × (length (now t) ≡ tableLength n m) × (length (now config) ≡ configSize) ⌝ }
+    ensures { λ _. ⌜ now (t .exit) ≡ laid n m value (now (config .entry)) ⌝ }
+{
+    put_pair(t, STATIONS_AT, n as u8, m as u8, HEAD_SIZE - OFF_AT);
+    lay_first(t, value, config);
+    lay_rest(t, n as usize * m as usize)
+}
