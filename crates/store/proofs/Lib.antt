@@ -1,4 +1,3 @@
 pub mod Search
 pub mod Refusals
 pub mod Writes
-pub mod Replies

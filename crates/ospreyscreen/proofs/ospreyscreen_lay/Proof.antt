@@ -3,11 +3,11 @@ use Rattle.layout.specs.View.{view}
 use Rattle.rules.specs.Calls.{lay, openRead, openWrite, openChange, poll, put, commit, abandon, link, reach}
 use Rattle.rules.specs.After.{done}
 use Rattle.rules.proofs.Chains.{allowed}
-use Rattle.store.proofs.Replies.{refused, finished, plain-finished, passed-sound, passed-long, item-byte, write-opens}
-use Rattle.store.proofs.Replies.{lay-number-is, lay-room}
+use Rattle.ospreyscreen.proofs.Replies.{refused, finished, plain-finished, passed-sound, passed-long, item-byte, write-opens}
+use Rattle.ospreyscreen.proofs.Replies.{lay-number-is, lay-room}
 use borrow.Author.Needs.{needs}
-use Rattle.store.proofs.calls.ospreyscreen_lay.Statement.{statement}
-use Rattle.store.proofs.calls.ospreyscreen_lay.Tie as tie
+use Rattle.ospreyscreen.proofs.ospreyscreen_lay.Statement.{statement}
+use Rattle.ospreyscreen.proofs.ospreyscreen_lay.Tie as tie
 
 lay-number-requires : tie.Need-lay-number-requires
 lay-number-requires c κs = search needs

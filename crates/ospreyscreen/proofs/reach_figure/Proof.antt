@@ -2,10 +2,10 @@ use Rattle.quorum.specs.Sets.{full, minus}
 use Rattle.layout.specs.Fields.{stations, offSet, copyOf}
 use mathlib.Core.Path.{ap, _∙_}
 use Rattle.layout.proofs.Soundness.{sound-facts}
 use Rattle.store.proofs.Refusals.{long, found-below, newest-config, read-fails, read-holds, write-fails, write-holds}
 use borrow.Author.Needs.{needs}
-use Rattle.store.proofs.calls.reach_figure.Statement.{statement}
-use Rattle.store.proofs.calls.reach_figure.Tie as tie
+use Rattle.ospreyscreen.proofs.reach_figure.Statement.{statement}
+use Rattle.ospreyscreen.proofs.reach_figure.Tie as tie
 
 stations-requires : tie.Need-stations-requires
 stations-requires c κs = long _ (sound-facts _ (c .before .pre .0))

@@ -3,13 +3,13 @@ use Rattle.layout.specs.View.{view}
 use Rattle.rules.specs.Calls.{lay, openRead, openWrite, openChange, poll, put, commit, abandon, link, reach}
 use Rattle.rules.specs.After.{done}
 use Rattle.rules.proofs.Chains.{allowed}
-use Rattle.store.proofs.Replies.{refused, finished, plain-finished, passed-sound, passed-long, item-byte, write-opens}
+use Rattle.ospreyscreen.proofs.Replies.{refused, finished, plain-finished, passed-sound, passed-long, item-byte, write-opens}
 use native.Mathlib.Omega.{arith}
 use lib.Seq.{take-all}
 use Rattle.quorum.proofs.Promise.{promise}
 use borrow.Author.Needs.{needs}
-use Rattle.store.proofs.calls.ospreyscreen_open_change.Statement.{statement}
-use Rattle.store.proofs.calls.ospreyscreen_open_change.Tie as tie
+use Rattle.ospreyscreen.proofs.ospreyscreen_open_change.Statement.{statement}
+use Rattle.ospreyscreen.proofs.ospreyscreen_open_change.Tie as tie
 
 open-change-number-requires : tie.Need-open-change-number-requires
 open-change-number-requires c κs = search needs

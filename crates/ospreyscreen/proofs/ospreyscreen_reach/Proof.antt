@@ -3,12 +3,12 @@ use Rattle.layout.specs.View.{view}
 use Rattle.rules.specs.Calls.{lay, openRead, openWrite, openChange, poll, put, commit, abandon, link, reach}
 use Rattle.rules.specs.After.{done}
 use Rattle.rules.proofs.Chains.{allowed}
-use Rattle.store.proofs.Replies.{refused, finished, plain-finished, passed-sound, passed-long, item-byte, write-opens}
+use Rattle.ospreyscreen.proofs.Replies.{refused, finished, plain-finished, passed-sound, passed-long, item-byte, write-opens}
 use Rattle.rules.specs.Figures.{figuresOf}
 use Rattle.store.proofs.Refusals.{closing-figures}
 use borrow.Author.Needs.{needs}
-use Rattle.store.proofs.calls.ospreyscreen_reach.Statement.{statement}
-use Rattle.store.proofs.calls.ospreyscreen_reach.Tie as tie
+use Rattle.ospreyscreen.proofs.ospreyscreen_reach.Statement.{statement}
+use Rattle.ospreyscreen.proofs.ospreyscreen_reach.Tie as tie
 
 reach-number-requires : tie.Need-reach-number-requires
 reach-number-requires c κs = search needs

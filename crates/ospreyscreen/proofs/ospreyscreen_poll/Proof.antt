@@ -6,16 +6,16 @@ use Rattle.layout.specs.View.{view}
 use Rattle.rules.specs.Calls.{lay, openRead, openWrite, openChange, poll, put, commit, abandon, link, reach}
 use Rattle.rules.specs.After.{done}
 use Rattle.rules.proofs.Chains.{allowed}
-use Rattle.store.proofs.Replies.{refused, finished, plain-finished, passed-sound, passed-long, item-byte, write-opens}
+use Rattle.ospreyscreen.proofs.Replies.{refused, finished, plain-finished, passed-sound, passed-long, item-byte, write-opens}
 use mathlib.Core.Path.{ap}
 use mathlib.Core.Bool.{cond}
 use Rattle.quorum.specs.Sets.{join}
 use Rattle.layout.proofs.Soundness.{sound-facts}
 use Rattle.rules.specs.Figures.{figuresOf}
 use Rattle.store.proofs.Refusals.{own-item, closing-figures}
 use borrow.Author.Needs.{needs}
-use Rattle.store.proofs.calls.ospreyscreen_poll.Statement.{statement}
-use Rattle.store.proofs.calls.ospreyscreen_poll.Tie as tie
+use Rattle.ospreyscreen.proofs.ospreyscreen_poll.Statement.{statement}
+use Rattle.ospreyscreen.proofs.ospreyscreen_poll.Tie as tie
 
 poll-number-requires : tie.Need-poll-number-requires
 poll-number-requires c κs = search needs

@@ -3,10 +3,10 @@ use Rattle.layout.specs.View.{view}
 use Rattle.rules.specs.Calls.{lay, openRead, openWrite, openChange, poll, put, commit, abandon, link, reach}
 use Rattle.rules.specs.After.{done}
 use Rattle.rules.proofs.Chains.{allowed}
-use Rattle.store.proofs.Replies.{refused, finished, plain-finished, passed-sound, passed-long, item-byte, write-opens}
+use Rattle.ospreyscreen.proofs.Replies.{refused, finished, plain-finished, passed-sound, passed-long, item-byte, write-opens}
 use borrow.Author.Needs.{needs}
-use Rattle.store.proofs.calls.ospreyscreen_open_write.Statement.{statement}
-use Rattle.store.proofs.calls.ospreyscreen_open_write.Tie as tie
+use Rattle.ospreyscreen.proofs.ospreyscreen_open_write.Statement.{statement}
+use Rattle.ospreyscreen.proofs.ospreyscreen_open_write.Tie as tie
 
 open-number-requires : tie.Need-open-number-requires
 open-number-requires c κs = search needs

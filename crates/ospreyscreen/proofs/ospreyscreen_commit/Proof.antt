@@ -1,9 +1,9 @@
-use Rattle.store.proofs.Replies.{commit-refused, commit-sound, commit-finished}
+use Rattle.ospreyscreen.proofs.Replies.{commit-refused, commit-sound, commit-finished}
 use Rattle.store.proofs.Refusals.{long}
 use Rattle.layout.proofs.Soundness.{sound-facts}
 use borrow.Author.Needs.{needs}
-use Rattle.store.proofs.calls.ospreyscreen_commit.Statement.{statement}
-use Rattle.store.proofs.calls.ospreyscreen_commit.Tie as tie
+use Rattle.ospreyscreen.proofs.ospreyscreen_commit.Statement.{statement}
+use Rattle.ospreyscreen.proofs.ospreyscreen_commit.Tie as tie
 
 commit-reply-requires : tie.Need-commit-reply-requires
 commit-reply-requires c κs = search needs
