@@ -10,14 +10,13 @@ use borrow.Author.Tests.{eqb-true, ne-eqb}
 use Rattle.quorum.proofs.Promise.{promise}
 use Rattle.layout.specs.Layout.{headSize, configSize, tableLength}
 use Rattle.layout.specs.Fields.{stations}
-use Rattle.layout.specs.Updates.{setRound, noTarget}
 use Rattle.layout.specs.Soundness.{sound}
 use Rattle.layout.specs.View.{State, view}
 use Rattle.layout.proofs.Soundness.{Sound, sound-facts}
 use Rattle.rules.specs.Calls.{Call, lay, openRead, openWrite, openChange, poll, put, commit, abandon, link, reach}
 use Rattle.rules.specs.Rules.{refusals, numberOf}
 use Rattle.rules.specs.Figures.{Figures, closing, figuresOf}
-use Rattle.rules.specs.After.{putCopies, done}
+use Rattle.rules.specs.After.{putCopies, closed, done}
 use Rattle.rules.specs.Reply.{answer, reply, after}
 use Rattle.rules.specs.Demand1.{hasFigures}
 use Rattle.rules.specs.declared.Reply.{Reply}
@@ -96,9 +95,9 @@ module _ (t : List ℕ) {r : Reply} (e : r ≡ reply t commit) where
       let third : r .third ≡ f .third = ap (λ x. x .third) e ∙ rw z in
       λ i. record { first = first i; second = second i; third = third i }
 
-  pub commit-finished : {u w : List ℕ} → r .number ≡ 0 → w ≡ putCopies t (view t) (record { first = r .first; second = r .second; third = r .third }) (stations t)
-      → u ≡ setRound w 0 0 0 noTarget → (r ≡ reply t commit) × (u ≡ after t commit)
+  pub commit-finished : {u : List ℕ} → r .number ≡ 0
+      → u ≡ closed (putCopies t (view t) (record { first = r .first; second = r .second; third = r .third }) (stations t)) → (r ≡ reply t commit) × (u ≡ after t commit)
   unfolding after done view
-  commit-finished h p q =
+  commit-finished h q =
       let z : numberOf (view t) commit ≡ 0 = sym commit-number ∙ h in
-      (e, q ∙ rw (z, p, figures-are h))
+      (e, q ∙ rw (z, figures-are h))

@@ -33,8 +33,8 @@ use store::number::poll_number;
 use store::number::put_number;
 use store::number::reach_number;
 use store::round::Round;
+use store::write::finish;
 use store::write::lay_bytes;
-use store::write::put_copies;
 
 // 1 if the test holds, else 0.
 fn one_if(test: bool) -> u64
@@ -167,13 +167,12 @@ pub extern "C" fn ospreyscreen_commit(table: &mut [u8]) -> Reply
     if outcome.number != 0 {
         return outcome;
     }
-    put_copies(
+    finish(
         table,
         outcome.first,
         Version(outcome.second),
         Generation(outcome.third),
     );
-    set_round(table, 0, 0, 0, [0u8; 32]);
     outcome
 }
 

@@ -21,6 +21,7 @@ use Rattle.quorum.specs.Configurations.{valid, holdsRead, holdsWrite}
 use Rattle.rules.specs.Newest.{newest, copyOr, byVersion, byGeneration, hears, heard, foundByVersion, foundByGeneration}
 use Rattle.store.proofs.Search.{newest-below}
 use Rattle.store.specs.Found.{Below}
+use Rattle.store.specs.Commit.{RoundFound}
 use Rattle.rules.specs.Rules.{idle, last}
 use Rattle.rules.specs.declared.Reply.{Reply}
 
@@ -143,3 +144,39 @@ pub newest-config : (t : List ℕ) (i : ℕ) {p p′ : ℕ} {o : Option ℕ} →
     → copyOr (copyOf t i) o ≡ byGeneration (copyOf t i) p′ (stations t)
 unfolding byGeneration
 newest-config t i f g = rw (g, f)
+
+-- ---- a round that has found its newest copies
+module _ (t : List ℕ) {i : ℕ} {b g : Option ℕ} (f : RoundFound t i b g) where
+  pub round-long : headSize ≤ length t
+  round-long = long t (sound-facts t (f .isSound))
+
+  item-in : i < items t
+  item-in = own-item t (sound-facts t (f .isSound)) (f .item)
+
+  -- what the readers of the copies found require
+  pub version-within : (sound t ≡ true) × (i < items t) × Below (stations t) b
+  version-within = (f .isSound, item-in, found-below (λ s. copyOf t i s .version) (roundOf t .polled) (stations t) (f .byVersion))
+
+  pub generation-within : (sound t ≡ true) × (i < items t) × Below (stations t) g
+  generation-within = (f .isSound, item-in, found-below (λ s. copyOf t i s .generation) (roundOf t .polled) (stations t) (f .byGeneration))
+
+  -- they are those that the rules speak of
+  pub version-found : copyOr (copyOf t i) b ≡ foundByVersion (view t)
+  version-found = found-by-version t (f .item) refl (f .byVersion)
+
+  pub generation-found : copyOr (copyOf t i) g ≡ foundByGeneration (view t)
+  generation-found = found-by-generation t (f .item) refl (f .byGeneration)
+
+-- whether it is heard
+pub round-heard : (t : List ℕ) {r : Bool} {i p : ℕ} {g : Option ℕ} {c : List ℕ} → i ≡ roundOf t .item → p ≡ roundOf t .polled
+    → g ≡ newest (λ s. copyOf t i s .generation) p (stations t) → c ≡ copyOr (copyOf t i) g .config → r ≡ holdsRead c p → r ≡ heard (view t)
+unfolding hears byGeneration view
+round-heard t e f h q z = z ∙ rw (q, h, e, f)
+
+-- a put set that is not empty, and the rules' test that both are
+pub either-put : (a b : ℕ) → (not (eqb a 0) || not (eqb b 0)) ≡ not (eqb a 0 && eqb b 0)
+either-put a b = go (eqb a 0) (eqb b 0)
+  where
+    go : (x y : Bool) → (not x || not y) ≡ not (x && y)
+    go true y = refl
+    go false y = refl

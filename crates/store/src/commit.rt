@@ -1,15 +1,14 @@
 // Commit's reply, by what the round has found. Nothing is changed here.
 ghost use mathlib.Core.Path.{_≡_};
-ghost use mathlib.Core.Bool.{true};
 ghost use Rattle.layout.specs.Fields.{read, write, change};
-ghost use Rattle.layout.specs.Soundness.{sound};
 ghost use Rattle.layout.specs.View.{view};
 ghost use Rattle.rules.specs.Calls.{commit};
 ghost use Rattle.rules.specs.Reply.{reply};
-ghost use Rattle.store.specs.Commit.{closingReply};
+ghost use Rattle.store.specs.Found.{asOption};
+ghost use Rattle.store.specs.Commit.{RoundFound, closingReply};
+use crate::newest::Found;
 use crate::newest::config_of;
 use crate::newest::generation_of;
-use crate::newest::is_heard;
 use crate::newest::newest_generation;
 use crate::newest::newest_version;
 use crate::newest::value_of;
@@ -54,27 +53,27 @@ pub fn commit_reply(t: &[u8]) -> Reply
     if k == NO_ROUND {
         return plain(IDLE);
     }
-    if !is_heard(t, item(t), polled(t)) {
+    let i = item(t);
+    let stations = polled(t);
+    let g = newest_generation(t, i, stations);
+    if !quorum::holds_read_set(config_of(t, i, g), stations) {
         return plain(UNHEARD);
     }
+    let b = newest_version(t, i, stations);
     if k == READ {
-        return read_reply(t);
+        return read_reply(t, i, b, g);
     }
     if k == WRITE {
-        return write_reply(t);
+        return write_reply(t, i, b, g);
     }
-    change_reply(t)
+    change_reply(t, i, b, g)
 }
 
 // A heard read: what it found.
-fn read_reply(t: &[u8]) -> Reply
-    requires { ⌜ sound (now t) ≡ true ⌝ }
+fn read_reply(t: &[u8], i: usize, b: Found, g: Found) -> Reply
+    requires { ⌜ RoundFound (now t) i (asOption b) (asOption g) ⌝ }
     ensures { λ r. ⌜ r ≡ closingReply (view (now (t .entry))) read ⌝ }
 {
-    let i = item(t);
-    let stations = polled(t);
-    let b = newest_version(t, i, stations);
-    let g = newest_generation(t, i, stations);
     Reply {
         number: 0,
         first: value_of(t, i, b),
@@ -84,14 +83,10 @@ fn read_reply(t: &[u8]) -> Reply
 }
 
 // A heard write: its value with the next version, if its data puts hold a write set of the configuration found.
-fn write_reply(t: &[u8]) -> Reply
-    requires { ⌜ sound (now t) ≡ true ⌝ }
+fn write_reply(t: &[u8], i: usize, b: Found, g: Found) -> Reply
+    requires { ⌜ RoundFound (now t) i (asOption b) (asOption g) ⌝ }
     ensures { λ r. ⌜ r ≡ closingReply (view (now (t .entry))) write ⌝ }
 {
-    let i = item(t);
-    let stations = polled(t);
-    let b = newest_version(t, i, stations);
-    let g = newest_generation(t, i, stations);
     let version = version_of(t, i, b);
     if version.is_last() {
         return plain(SPENT);
@@ -109,14 +104,11 @@ fn write_reply(t: &[u8]) -> Reply
 
 // A heard change: the next generation, if its data puts hold a write set of the target and its configuration puts one of the
 // configuration found.
-fn change_reply(t: &[u8]) -> Reply
-    requires { ⌜ sound (now t) ≡ true ⌝ }
+fn change_reply(t: &[u8], i: usize, b: Found, g: Found) -> Reply
+    requires { ⌜ RoundFound (now t) i (asOption b) (asOption g) ⌝ }
     ensures { λ r. ⌜ r ≡ closingReply (view (now (t .entry))) change ⌝ }
 {
-    let i = item(t);
-    let stations = polled(t);
-    let b = newest_version(t, i, stations);
-    let g = newest_generation(t, i, stations);
+    let version = version_of(t, i, b);
     let generation = generation_of(t, i, g);
     if generation.is_last() {
         return plain(SPENT);
@@ -130,7 +122,7 @@ fn change_reply(t: &[u8]) -> Reply
     Reply {
         number: 0,
         first: value_of(t, i, b),
-        second: version_of(t, i, b).0,
+        second: version.0,
         third: generation.next().0,
     }
 }

@@ -3,12 +3,14 @@ ghost use mathlib.Core.Path.{_≡_};
 ghost use mathlib.Core.Bool.{true, _||_};
 ghost use lib.Dec.{eqb};
 ghost use Rattle.quorum.specs.Bytes.{number};
-ghost use Rattle.layout.specs.Layout.{kindAt};
+ghost use Prim.Native.Nat.{_≤_};
+ghost use lib.ListN.{length};
+ghost use Rattle.layout.specs.Layout.{headSize, kindAt};
 ghost use Rattle.layout.specs.Fields.{write, change};
 ghost use Rattle.layout.specs.Soundness.{sound};
 ghost use Rattle.layout.specs.View.{view};
 ghost use Rattle.rules.specs.Calls.{openRead, openChange, poll, put, abandon, link, reach};
-ghost use Rattle.rules.specs.Rules.{first, spent, numberOf};
+ghost use Rattle.rules.specs.Rules.{first, readingOver, spent, numberOf};
 ghost use Rattle.store.specs.Commit.{putKind, layNumber};
 use crate::newest::generation_of;
 use crate::newest::is_heard;
@@ -120,13 +122,18 @@ pub fn poll_number(t: &[u8], s: u64) -> u64
     if quorum::is_member(off_set(t), s as usize) {
         return OFF_THE_BUS;
     }
-    if data_puts(t) != 0 {
-        return READING_OVER;
-    }
-    if config_puts(t) != 0 {
+    if has_puts(t) {
         return READING_OVER;
     }
     DONE
+}
+
+// Whether a put set is not empty.
+fn has_puts(t: &[u8]) -> bool
+    requires { ⌜ headSize ≤ length (now t) ⌝ }
+    ensures { λ r. ⌜ r ≡ readingOver (view (now (t .entry))) ⌝ }
+{
+    (data_puts(t) != 0) | (config_puts(t) != 0)
 }
 
 pub fn put_number(t: &[u8], s: u64, sort: u64) -> u64

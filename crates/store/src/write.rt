@@ -9,7 +9,7 @@ ghost use Rattle.layout.specs.Fields.{stations};
 ghost use Rattle.layout.specs.Soundness.{sound};
 ghost use Rattle.layout.specs.Updates.{putData, putConfig, over, copyBytes};
 ghost use Rattle.layout.specs.View.{view};
-ghost use Rattle.rules.specs.After.{putCopies, repeated, laid};
+ghost use Rattle.rules.specs.After.{putCopies, closed, repeated, laid};
 use layout::copy::COPY_SIZE;
 use layout::copy::Generation;
 use layout::copy::Version;
@@ -23,6 +23,7 @@ use layout::head::TARGET_AT;
 use layout::head::config_puts;
 use layout::head::data_puts;
 use layout::head::item;
+use layout::head::set_round;
 use layout::head::stations;
 use layout::number::CONFIG_SIZE;
 use layout::number::config_bytes_at;
@@ -55,7 +56,7 @@ fn put_config_if(
 }
 
 // Every put of the open round takes effect.
-pub fn put_copies(t: &mut [u8], value: u64, version: Version, generation: Generation)
+fn put_copies(t: &mut [u8], value: u64, version: Version, generation: Generation)
     requires { ⌜ sound (now t) ≡ true ⌝ }
     ensures { λ _. ⌜ now (t .exit) ≡ putCopies (now (t .entry)) (view (now (t .entry))) (record { first = value; second = version .0; third = generation .0 }) (stations (now (t .entry))) ⌝ }
 {
@@ -69,6 +70,15 @@ pub fn put_copies(t: &mut [u8], value: u64, version: Version, generation: Genera
         put_data_if(t, at, quorum::is_member(data, s), version, value);
         put_config_if(t, at, quorum::is_member(config, s), generation, target);
     }
+}
+
+// The same, and the round closes.
+pub fn finish(t: &mut [u8], value: u64, version: Version, generation: Generation)
+    requires { ⌜ sound (now t) ≡ true ⌝ }
+    ensures { λ _. ⌜ now (t .exit) ≡ closed (putCopies (now (t .entry)) (view (now (t .entry))) (record { first = value; second = version .0; third = generation .0 }) (stations (now (t .entry)))) ⌝ }
+{
+    put_copies(t, value, version, generation);
+    set_round(t, 0, 0, 0, [0u8; CONFIG_SIZE])
 }
 
 // The most bytes that are copied at once: half of the copies of the largest table.

@@ -1,31 +1,14 @@
-use Prim.Native.Nat.{_+_}
-use Rattle.store.proofs.Refusals.{not-last}
-use mathlib.Core.Path.{refl, sym, ap, _∙_}
-use Rattle.layout.proofs.Soundness.{sound-facts}
-use Rattle.layout.specs.Fields.{copyOf}
-use Rattle.rules.specs.Rules.{first}
-use Rattle.store.proofs.Refusals.{long, own-item, found-below, found-by-version, found-by-generation, closing-figures, last-test, write-test, write-fails, write-holds}
-use native.Mathlib.Omega.{arith}
-use borrow.Author.Tests.{eqb-false}
+use mathlib.Core.Path.{refl, ap, _∙_}
 use Rattle.layout.specs.View.{view}
+use Rattle.rules.specs.Rules.{first}
+use Prim.Native.Nat.{_+_}
+use Rattle.store.proofs.Refusals.{version-within, generation-within, version-found, generation-found, round-long, closing-figures, last-test, write-fails, write-holds, not-last}
 use borrow.Author.Needs.{needs}
 use Rattle.store.proofs.commit.write_reply.Statement.{statement}
 use Rattle.store.proofs.commit.write_reply.Tie as tie
 
-item-requires : tie.Need-item-requires
-item-requires c κs = long _ (sound-facts _ (c .before .pre))
-
-polled-requires : tie.Need-polled-requires
-polled-requires c κs = long _ (sound-facts _ (c .before .before .pre))
-
-newest-version-requires : tie.Need-newest-version-requires
-newest-version-requires c κs = (c .before .before .before .pre, own-item _ (sound-facts _ (c .before .before .before .pre)) (c .before .item .ensures))
-
-newest-generation-requires : tie.Need-newest-generation-requires
-newest-generation-requires c κs = (c .before .before .before .before .pre, own-item _ (sound-facts _ (c .before .before .before .before .pre)) (c .before .before .item .ensures))
-
 version-of-requires : tie.Need-version-of-requires
-version-of-requires c κs = (c .before .before .before .before .before .pre, own-item _ (sound-facts _ (c .before .before .before .before .before .pre)) (c .before .before .before .item .ensures), found-below (λ s. copyOf _ _ s .version) _ _ (c .before .newest-version .ensures))
+version-of-requires c κs = version-within _ (c .before .pre)
 
 is-last-requires : tie.Need-is-last-requires
 is-last-requires c κs = search needs
@@ -35,13 +18,13 @@ plain-requires c κs = search needs
 
 returns : tie.Need-returns
 unfolding first view
-returns c = c .plain .ensures ∙ rw (last-test (c .before .before .is-last .ensures) (c .before .before .before .version-of .ensures ∙ ap (λ x. x .version) (found-by-version _ (c .before .before .before .before .before .before .before .item .ensures) (c .before .before .before .before .before .before .polled .ensures) (c .before .before .before .before .before .newest-version .ensures))) (c .before .if1 .taken))
+returns c = c .plain .ensures ∙ rw (last-test (c .before .before .is-last .ensures) (c .before .before .before .version-of .ensures ∙ ap (λ y. y .version) (version-found _ (c .before .before .before .before .before .pre))) (c .before .if1 .taken))
 
 config-of-requires : tie.Need-config-of-requires
-config-of-requires c κs = (c .before .before .before .before .before .before .before .before .pre, own-item _ (sound-facts _ (c .before .before .before .before .before .before .before .before .pre)) (c .before .before .before .before .before .before .item .ensures), found-below (λ s. copyOf _ _ s .generation) _ _ (c .before .before .before .newest-generation .ensures))
+config-of-requires c κs = generation-within _ (c .before .before .before .before .pre)
 
 data-puts-requires : tie.Need-data-puts-requires
-data-puts-requires c κs = long _ (sound-facts _ (c .before .before .before .before .before .before .before .before .before .pre))
+data-puts-requires c κs = round-long _ (c .before .before .before .before .before .pre)
 
 holds-write-set-requires : tie.Need-holds-write-set-requires
 holds-write-set-requires c κs = search needs
@@ -51,29 +34,25 @@ plain-requires-2 c κs = search needs
 
 returns-2 : tie.Need-returns-2
 unfolding first view
-returns-2 c = c .plain2 .ensures ∙ rw (last-test (c .before .before .before .before .before .before .is-last .ensures) (c .before .before .before .before .before .before .before .version-of .ensures ∙ ap (λ x. x .version) (found-by-version _ (c .before .before .before .before .before .before .before .before .before .before .before .item .ensures) (c .before .before .before .before .before .before .before .before .before .before .polled .ensures) (c .before .before .before .before .before .before .before .before .before .newest-version .ensures))) (c .before .before .before .before .before .if1 .left), write-fails (c .before .before .holds-write-set .ensures) (c .before .before .before .before .config-of .ensures ∙ ap (λ x. x .config) (found-by-generation _ (c .before .before .before .before .before .before .before .before .before .before .before .item .ensures) (c .before .before .before .before .before .before .before .before .before .before .polled .ensures) (c .before .before .before .before .before .before .before .before .newest-generation .ensures))) (c .before .before .before .data-puts .ensures) (c .before .if2 .taken))
+returns-2 c = c .plain2 .ensures ∙ rw (last-test (c .before .before .before .before .before .before .is-last .ensures) (c .before .before .before .before .before .before .before .version-of .ensures ∙ ap (λ y. y .version) (version-found _ (c .before .before .before .before .before .before .before .before .before .pre))) (c .before .before .before .before .before .if1 .left), write-fails (c .before .before .holds-write-set .ensures) (c .before .before .before .before .config-of .ensures ∙ ap (λ y. y .config) (generation-found _ (c .before .before .before .before .before .before .before .before .before .pre))) (c .before .before .before .data-puts .ensures) (c .before .if2 .taken))
 
 value-requires : tie.Need-value-requires
-value-requires c κs = long _ (sound-facts _ (c .before .before .before .before .before .before .before .before .before .before .before .before .pre))
+value-requires c κs = round-long _ (c .before .before .before .before .before .before .before .before .pre)
 
 next-requires : tie.Need-next-requires
 next-requires c κs = not-last (c .before .before .before .before .before .before .before .version-of .result .0) (search needs) (c .before .before .before .before .before .before .is-last .ensures) (c .before .before .before .before .before .if1 .left)
 
 generation-of-requires : tie.Need-generation-of-requires
-generation-of-requires c κs = (c .before .before .before .before .before .before .before .before .before .before .before .before .before .before .pre, own-item _ (sound-facts _ (c .before .before .before .before .before .before .before .before .before .before .before .before .before .before .pre)) (c .before .before .before .before .before .before .before .before .before .before .before .before .item .ensures), found-below (λ s. copyOf _ _ s .generation) _ _ (c .before .before .before .before .before .before .before .before .before .newest-generation .ensures))
+generation-of-requires c κs = generation-within _ (c .before .before .before .before .before .before .before .before .before .before .pre)
 
 returns-3 : tie.Need-returns-3
 unfolding first view
-returns-3 c = rw (last-test (c .before .before .before .before .before .before .before .before .is-last .ensures) (c .before .before .before .before .before .before .before .before .before .version-of .ensures ∙ ap (λ x. x .version) (found-by-version _ (c .before .before .before .before .before .before .before .before .before .before .before .before .before .item .ensures) (c .before .before .before .before .before .before .before .before .before .before .before .before .polled .ensures) (c .before .before .before .before .before .before .before .before .before .before .before .newest-version .ensures))) (c .before .before .before .before .before .before .before .if1 .left), write-holds (c .before .before .before .before .holds-write-set .ensures) (c .before .before .before .before .before .before .config-of .ensures ∙ ap (λ x. x .config) (found-by-generation _ (c .before .before .before .before .before .before .before .before .before .before .before .before .before .item .ensures) (c .before .before .before .before .before .before .before .before .before .before .before .before .polled .ensures) (c .before .before .before .before .before .before .before .before .before .before .newest-generation .ensures))) (c .before .before .before .before .before .data-puts .ensures) (c .before .before .before .if2 .left)) (closing-figures refl (c .before .before .value .ensures) (c .before .next .ensures ∙ ap (λ x. x + 1) (c .before .before .before .before .before .before .before .before .before .version-of .ensures ∙ ap (λ x. x .version) (found-by-version _ (c .before .before .before .before .before .before .before .before .before .before .before .before .before .item .ensures) (c .before .before .before .before .before .before .before .before .before .before .before .before .polled .ensures) (c .before .before .before .before .before .before .before .before .before .before .before .newest-version .ensures)))) (c .generation-of .ensures ∙ ap (λ x. x .generation) (found-by-generation _ (c .before .before .before .before .before .before .before .before .before .before .before .before .before .item .ensures) (c .before .before .before .before .before .before .before .before .before .before .before .before .polled .ensures) (c .before .before .before .before .before .before .before .before .before .before .newest-generation .ensures))))
+returns-3 c = rw (last-test (c .before .before .before .before .before .before .before .before .is-last .ensures) (c .before .before .before .before .before .before .before .before .before .version-of .ensures ∙ ap (λ y. y .version) (version-found _ (c .before .before .before .before .before .before .before .before .before .before .before .pre))) (c .before .before .before .before .before .before .before .if1 .left), write-holds (c .before .before .before .before .holds-write-set .ensures) (c .before .before .before .before .before .before .config-of .ensures ∙ ap (λ y. y .config) (generation-found _ (c .before .before .before .before .before .before .before .before .before .before .before .pre))) (c .before .before .before .before .before .data-puts .ensures) (c .before .before .before .if2 .left)) (closing-figures refl (c .before .before .value .ensures) (c .before .next .ensures ∙ ap (λ y. y + 1) (c .before .before .before .before .before .before .before .before .before .version-of .ensures ∙ ap (λ y. y .version) (version-found _ (c .before .before .before .before .before .before .before .before .before .before .before .pre)))) (c .generation-of .ensures ∙ ap (λ y. y .generation) (generation-found _ (c .before .before .before .before .before .before .before .before .before .before .before .pre))))
 
 pub write-reply-spec : {M : Type 1} → statement M
 write-reply-spec =
     tie.close
     (tie.spec
-    item-requires
-    polled-requires
-    newest-version-requires
-    newest-generation-requires
     version-of-requires
     is-last-requires
     plain-requires

@@ -1,6 +1,7 @@
+use mathlib.Core.Path.{sym, _∙_}
 use Rattle.layout.specs.View.{view}
 use Rattle.rules.specs.Rules.{first, refusals, numberOf}
-use Rattle.store.proofs.Refusals.{differs, equals, facts, fails, holds, is-below, is-idle, is-open, long, member-test, not-below}
+use Rattle.store.proofs.Refusals.{fails, holds, facts, long, not-below, is-below, is-open, is-idle, member-test}
 use borrow.Author.Needs.{needs}
 use Rattle.store.proofs.number.poll_number.Statement.{statement}
 use Rattle.store.proofs.number.poll_number.Tie as tie
@@ -36,23 +37,16 @@ returns-4 : tie.Need-returns-4
 unfolding numberOf refusals first view
 returns-4 c = rw (holds (c .before .before .before .before .before .before .before .before .is-sound .ensures) (c .before .before .before .before .before .before .before .if1 .left), is-below (c .before .before .before .before .before .before .stations .ensures) (c .before .before .before .before .before .if2 .left), is-open (c .before .before .before .before .kind .ensures) (c .before .before .before .if3 .left), member-test _ (c .before .before .off-set .ensures) (c .before .is-member .ensures) (c .if4 .taken))
 
-data-puts-requires : tie.Need-data-puts-requires
-data-puts-requires c κs = long _ (facts (c .before .before .before .before .before .before .before .before .is-sound .ensures) (c .before .before .before .before .before .before .before .if1 .left))
+has-puts-requires : tie.Need-has-puts-requires
+has-puts-requires c κs = long _ (facts (c .before .before .before .before .before .before .before .before .is-sound .ensures) (c .before .before .before .before .before .before .before .if1 .left))
 
 returns-5 : tie.Need-returns-5
 unfolding numberOf refusals first view
-returns-5 c = rw (holds (c .before .before .before .before .before .before .before .before .before .before .is-sound .ensures) (c .before .before .before .before .before .before .before .before .before .if1 .left), is-below (c .before .before .before .before .before .before .before .before .stations .ensures) (c .before .before .before .before .before .before .before .if2 .left), is-open (c .before .before .before .before .before .before .kind .ensures) (c .before .before .before .before .before .if3 .left), member-test _ (c .before .before .before .before .off-set .ensures) (c .before .before .before .is-member .ensures) (c .before .before .if4 .left), differs (c .before .data-puts .ensures) (c .if5 .taken))
-
-config-puts-requires : tie.Need-config-puts-requires
-config-puts-requires c κs = long _ (facts (c .before .before .before .before .before .before .before .before .before .before .is-sound .ensures) (c .before .before .before .before .before .before .before .before .before .if1 .left))
+returns-5 c = rw (holds (c .before .before .before .before .before .before .before .before .before .before .is-sound .ensures) (c .before .before .before .before .before .before .before .before .before .if1 .left), is-below (c .before .before .before .before .before .before .before .before .stations .ensures) (c .before .before .before .before .before .before .before .if2 .left), is-open (c .before .before .before .before .before .before .kind .ensures) (c .before .before .before .before .before .if3 .left), member-test _ (c .before .before .before .before .off-set .ensures) (c .before .before .before .is-member .ensures) (c .before .before .if4 .left), sym (c .before .has-puts .ensures) ∙ c .if5 .taken)
 
 returns-6 : tie.Need-returns-6
 unfolding numberOf refusals first view
-returns-6 c = rw (holds (c .before .before .before .before .before .before .before .before .before .before .before .before .is-sound .ensures) (c .before .before .before .before .before .before .before .before .before .before .before .if1 .left), is-below (c .before .before .before .before .before .before .before .before .before .before .stations .ensures) (c .before .before .before .before .before .before .before .before .before .if2 .left), is-open (c .before .before .before .before .before .before .before .before .kind .ensures) (c .before .before .before .before .before .before .before .if3 .left), member-test _ (c .before .before .before .before .before .before .off-set .ensures) (c .before .before .before .before .before .is-member .ensures) (c .before .before .before .before .if4 .left), equals (c .before .before .before .data-puts .ensures) (c .before .before .if5 .left), differs (c .before .config-puts .ensures) (c .if6 .taken))
-
-returns-7 : tie.Need-returns-7
-unfolding numberOf refusals first view
-returns-7 c = rw (holds (c .before .before .before .before .before .before .before .before .before .before .before .before .is-sound .ensures) (c .before .before .before .before .before .before .before .before .before .before .before .if1 .left), is-below (c .before .before .before .before .before .before .before .before .before .before .stations .ensures) (c .before .before .before .before .before .before .before .before .before .if2 .left), is-open (c .before .before .before .before .before .before .before .before .kind .ensures) (c .before .before .before .before .before .before .before .if3 .left), member-test _ (c .before .before .before .before .before .before .off-set .ensures) (c .before .before .before .before .before .is-member .ensures) (c .before .before .before .before .if4 .left), equals (c .before .before .before .data-puts .ensures) (c .before .before .if5 .left), equals (c .before .config-puts .ensures) (c .if6 .left))
+returns-6 c = rw (holds (c .before .before .before .before .before .before .before .before .before .before .is-sound .ensures) (c .before .before .before .before .before .before .before .before .before .if1 .left), is-below (c .before .before .before .before .before .before .before .before .stations .ensures) (c .before .before .before .before .before .before .before .if2 .left), is-open (c .before .before .before .before .before .before .kind .ensures) (c .before .before .before .before .before .if3 .left), member-test _ (c .before .before .before .before .off-set .ensures) (c .before .before .before .is-member .ensures) (c .before .before .if4 .left), sym (c .before .has-puts .ensures) ∙ c .if5 .left)
 
 pub poll-number-spec : {M : Type 1} → statement M
 poll-number-spec =
@@ -67,8 +61,6 @@ poll-number-spec =
     off-set-requires
     is-member-requires
     returns-4
-    data-puts-requires
+    has-puts-requires
     returns-5
-    config-puts-requires
-    returns-6
-    returns-7)
+    returns-6)

@@ -1,0 +1,21 @@
+use mathlib.Core.Path.{_∙_}
+use Rattle.layout.proofs.Soundness.{sound-facts}
+use Rattle.store.proofs.Refusals.{long}
+use borrow.Author.Needs.{needs}
+use Rattle.store.proofs.write.finish.Statement.{statement}
+use Rattle.store.proofs.write.finish.Tie as tie
+
+put-copies-requires : tie.Need-put-copies-requires
+put-copies-requires c κs = search needs
+
+set-round-requires : tie.Need-set-round-requires
+set-round-requires c κs = rw (c .before .before .before .put-copies .kept .0) (long _ (sound-facts _ (c .before .before .before .before .before .before .pre)))
+
+same-length : tie.Need-same-length
+same-length c = search needs
+
+returns : tie.Need-returns
+returns c = c .before .before .set-round .ensures ∙ rw (c .before .before .before .before .before .before .put-copies .ensures)
+
+pub finish-spec : {M : Type 1} → statement M
+finish-spec = tie.close (tie.spec put-copies-requires set-round-requires same-length returns)
