@@ -73,13 +73,6 @@ is-change (suc (suc (suc k))) a b c = refl
 pub member-test : {r b : Bool} {x off : ℕ} (s : ℕ) → x ≡ off → r ≡ member x s → r ≡ b → member off s ≡ b
 member-test s e f g = rw (← e) (sym f ∙ g)
 
--- a number that was read, and what it was compared with
-pub equals : {x d k : ℕ} → x ≡ d → x ≡ k → eqb d k ≡ true
-equals {x} {d} {k} e h = eq-eqb d k (sym e ∙ h)
-
-pub differs : {x d k : ℕ} → x ≡ d → (x ≡ k → ⊥) → eqb d k ≡ false
-differs {x} {d} {k} e h = ne-eqb d k (λ z. h (e ∙ z))
-
 -- the round's item is one of the table's
 pub own-item : (t : List ℕ) → Sound t → {i : ℕ} → i ≡ roundOf t .item → i < items t
 unfolding view
@@ -116,10 +109,6 @@ closing-figures e f g h = λ i. record { number = e i; first = f i; second = g i
 -- a counter that was found, and whether it is the last
 pub last-test : {r b : Bool} {x y : ℕ} → r ≡ last x → x ≡ y → r ≡ b → last y ≡ b
 last-test e f g = rw (← f) (sym e ∙ g)
-
--- a write set of a configuration, by stations
-pub write-test : {r b : Bool} {c c′ : List ℕ} {d d′ : ℕ} → r ≡ holdsWrite c d → c ≡ c′ → d ≡ d′ → not r ≡ b → not (holdsWrite c′ d′) ≡ b
-write-test e f g h = rw (← f, ← g, ← e) h
 
 -- one that is not the last can be raised
 pub not-last : (x : ℕ) {r : Bool} → x < 2 ^ 64 → r ≡ last x → r ≡ false → x < 2 ^ 64 - 1

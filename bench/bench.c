@@ -1,0 +1,422 @@
+/*
+ * Times the library beside the optimised C in one run.
+ *
+ *   bench [--samples N]             a Markdown table: each call and whole rounds
+ *   bench --growth [--samples N]    a CSV table: cost against the number of copies
+ *
+ * A sample is the mean time of a batch of runs. Batches of the two
+ * implementations take turns on the same table, which is set back before each
+ * batch; the minimum and the median of the samples are given. Where a run
+ * changes what the next one would do, it first copies the head, or the head
+ * and the item's copies, from a saved table; that is in the time of both.
+ */
+#define _POSIX_C_SOURCE 200809L /* clock_gettime */
+
+#include "calls.h"
+#include "configurations.h"
+#include "optimised.h"
+
+#include <stdio.h>
+#include <stdlib.h>
+#include <string.h>
+#include <time.h>
+
+static const implementation LIBRARY = IMPLEMENTATION("library", ospreyscreen_);
+static const implementation OPTIMISED = IMPLEMENTATION("optimised", opt_);
+
+enum { SAMPLES_MOST = 10001, SIDES = 2 };
+static const double BATCH_NS = 20000;
+static const double WARM_UP_NS = 3e8;
+
+/* A table and what is to be done on item 0 of it. */
+typedef struct {
+    unsigned n;
+    unsigned m;
+    size_t len;
+    unsigned quorum;  /* stations below it: the first set of both sides */
+    size_t set_back;  /* bytes that a run copies from the saved table first */
+    uint8_t config[OSPREYSCREEN_CONFIGURATION_LENGTH];
+    uint8_t table[OSPREYSCREEN_TABLE_LENGTH_MAX];
+    uint8_t saved[OSPREYSCREEN_TABLE_LENGTH_MAX];
+} scene;
+
+/* One run; gives 0 if every call in it was done. */
+typedef uint64_t run_function(const implementation *with, scene *s);
+
+/* How much of the table a run sets back. */
+typedef enum { NOTHING, HEAD, HEAD_AND_ITEM } extent;
+
+typedef struct {
+    const char *name;
+    run_function *prepare; /* brings the table to where the run starts */
+    run_function *run;
+    extent set_back;
+} row;
+
+typedef struct {
+    double minimum;
+    double median;
+} timing;
+
+/* ---- Runs ---- */
+
+static uint64_t nothing(const implementation *with, scene *s)
+{
+    (void)with;
+    (void)s;
+    return 0;
+}
+
+static uint64_t lay(const implementation *with, scene *s)
+{
+    return with->lay(s->table, s->len, s->n, s->m, 500, s->config, sizeof s->config).number;
+}
+
+static uint64_t open_read(const implementation *with, scene *s)
+{
+    return with->open_read(s->table, s->len, 0).number;
+}
+
+static uint64_t open_write(const implementation *with, scene *s)
+{
+    return with->open_write(s->table, s->len, 0, 510).number;
+}
+
+static uint64_t open_change(const implementation *with, scene *s)
+{
+    return with->open_change(s->table, s->len, 0, s->config, sizeof s->config).number;
+}
+
+static uint64_t poll_last(const implementation *with, scene *s)
+{
+    return with->poll(s->table, s->len, s->quorum - 1).number;
+}
+
+static uint64_t put_last(const implementation *with, scene *s)
+{
+    return with->put(s->table, s->len, s->quorum - 1, OSPREYSCREEN_PUT_DATA).number;
+}
+
+static uint64_t commit(const implementation *with, scene *s)
+{
+    return with->commit(s->table, s->len).number;
+}
+
+static uint64_t abandon(const implementation *with, scene *s)
+{
+    return with->abandon(s->table, s->len).number;
+}
+
+static uint64_t link_last(const implementation *with, scene *s)
+{
+    return with->link(s->table, s->len, s->n - 1, OSPREYSCREEN_LINK_ON).number;
+}
+
+static uint64_t reach(const implementation *with, scene *s)
+{
+    return with->reach(s->table, s->len, 0).number;
+}
+
+static uint64_t polls(const implementation *with, scene *s)
+{
+    uint64_t numbers = 0;
+    for (unsigned station = 0; station < s->quorum; station++) {
+        numbers |= with->poll(s->table, s->len, station).number;
+    }
+    return numbers;
+}
+
+static uint64_t puts_of(const implementation *with, scene *s, uint64_t sort)
+{
+    uint64_t numbers = 0;
+    for (unsigned station = 0; station < s->quorum; station++) {
+        numbers |= with->put(s->table, s->len, station, sort).number;
+    }
+    return numbers;
+}
+
+static uint64_t read_to_commit(const implementation *with, scene *s)
+{
+    return open_read(with, s) | polls(with, s);
+}
+
+static uint64_t write_to_puts(const implementation *with, scene *s)
+{
+    return open_write(with, s) | polls(with, s);
+}
+
+static uint64_t write_to_commit(const implementation *with, scene *s)
+{
+    return write_to_puts(with, s) | puts_of(with, s, OSPREYSCREEN_PUT_DATA);
+}
+
+static uint64_t change_to_commit(const implementation *with, scene *s)
+{
+    return open_change(with, s) | polls(with, s) | puts_of(with, s, OSPREYSCREEN_PUT_DATA) |
+           puts_of(with, s, OSPREYSCREEN_PUT_CONFIGURATION);
+}
+
+static uint64_t read_round(const implementation *with, scene *s)
+{
+    return read_to_commit(with, s) | commit(with, s);
+}
+
+static uint64_t write_round(const implementation *with, scene *s)
+{
+    return write_to_commit(with, s) | commit(with, s);
+}
+
+static uint64_t change_round(const implementation *with, scene *s)
+{
+    return change_to_commit(with, s) | commit(with, s);
+}
+
+static const row ROWS[] = {
+    {"lay", nothing, lay, NOTHING},
+    {"open read", nothing, open_read, HEAD},
+    {"open write", nothing, open_write, HEAD},
+    {"open change", nothing, open_change, HEAD},
+    {"poll", read_to_commit, poll_last, NOTHING},
+    {"put", write_to_puts, put_last, NOTHING},
+    {"commit of a read", read_to_commit, commit, HEAD},
+    {"commit of a write", write_to_commit, commit, HEAD},
+    {"commit of a change", change_to_commit, commit, HEAD_AND_ITEM},
+    {"abandon", read_to_commit, abandon, HEAD},
+    {"link", nothing, link_last, NOTHING},
+    {"reach", nothing, reach, NOTHING},
+    {"read round", nothing, read_round, NOTHING},
+    {"write round", nothing, write_round, NOTHING},
+    {"change round", nothing, change_round, HEAD_AND_ITEM},
+};
+enum { ROW_COUNT = sizeof ROWS / sizeof ROWS[0] };
+
+/* ---- Scenes ---- */
+
+static _Noreturn void give_up(const char *what, const char *name)
+{
+    fprintf(stderr, "bench: %s: %s\n", what, name);
+    exit(EXIT_FAILURE);
+}
+
+/* Gives every copy a configuration that differs from the one before it; n is
+ * 3 or more, since fewer stations have one majority only. */
+static void differ(rng *r, scene *s)
+{
+    const uint8_t *before = s->config;
+    for (size_t at = OSPREYSCREEN_HEAD_LENGTH; at < s->len; at += OSPREYSCREEN_COPY_LENGTH) {
+        uint8_t *config = s->table + at + 24;
+        do {
+            configuration_majorities(r, s->n, config);
+        } while (memcmp(config, before, OSPREYSCREEN_CONFIGURATION_LENGTH) == 0);
+        before = config;
+    }
+}
+
+static void set_scene(scene *s, unsigned n, unsigned m, bool alike)
+{
+    rng r = {n * 100 + m};
+
+    s->n = n;
+    s->m = m;
+    s->len = OSPREYSCREEN_TABLE_LENGTH(n, m);
+    s->quorum = n / 2 + 1;
+    configuration_majorities(&r, n, s->config);
+    if (lay(&OPTIMISED, s) != 0) {
+        give_up("refused", "lay");
+    }
+    if (!alike) {
+        differ(&r, s);
+    }
+    memcpy(s->saved, s->table, s->len);
+}
+
+/* Brings the scene to the start of the row. */
+static void set_row(scene *s, const row *w)
+{
+    static const size_t head = OSPREYSCREEN_HEAD_LENGTH;
+
+    s->set_back = w->set_back == NOTHING ? 0
+                  : w->set_back == HEAD  ? head
+                                         : head + (size_t)OSPREYSCREEN_COPY_LENGTH * s->n;
+    if (w->prepare(&OPTIMISED, s) != 0) {
+        give_up("refused on the way to", w->name);
+    }
+    memcpy(s->saved, s->table, s->len);
+}
+
+/* ---- Times ---- */
+
+static double now_ns(void)
+{
+    struct timespec t;
+    clock_gettime(CLOCK_MONOTONIC, &t);
+    return (double)t.tv_sec * 1e9 + (double)t.tv_nsec;
+}
+
+/* The mean time of a run in a batch of so many. */
+static double batch(const implementation *with, scene *s, const row *w, unsigned runs)
+{
+    uint64_t numbers = 0;
+
+    memcpy(s->table, s->saved, s->len);
+    double start = now_ns();
+    for (unsigned i = 0; i < runs; i++) {
+        memcpy(s->table, s->saved, s->set_back);
+        numbers |= w->run(with, s);
+    }
+    double time = now_ns() - start;
+    if (numbers != 0) {
+        give_up("refused", w->name);
+    }
+    return time / runs;
+}
+
+static unsigned runs_for(const implementation *with, scene *s, const row *w)
+{
+    unsigned runs = 1;
+    while (batch(with, s, w, runs) * runs < BATCH_NS) {
+        runs *= 2;
+    }
+    return runs;
+}
+
+static int by_size(const void *a, const void *b)
+{
+    double x = *(const double *)a;
+    double y = *(const double *)b;
+    return (x > y) - (x < y);
+}
+
+/* Times the row with both implementations, batch by batch in turn. */
+static void measure(scene *s, const row *w, unsigned samples, timing out[SIDES])
+{
+    static const implementation *const sides[SIDES] = {&LIBRARY, &OPTIMISED};
+    static double times[SIDES][SAMPLES_MOST];
+    unsigned runs = runs_for(&OPTIMISED, s, w);
+
+    for (unsigned i = 0; i < samples; i++) {
+        for (unsigned turn = 0; turn < SIDES; turn++) {
+            unsigned which = (i + turn) % SIDES;
+            times[which][i] = batch(sides[which], s, w, runs);
+        }
+    }
+    for (unsigned which = 0; which < SIDES; which++) {
+        qsort(times[which], samples, sizeof times[which][0], by_size);
+        out[which] = (timing){times[which][0], times[which][samples / 2]};
+    }
+}
+
+/* Runs a while without a result, until the processor is at its pace. */
+static void warm_up(scene *s)
+{
+    const row *w = &ROWS[0];
+    double start = now_ns();
+
+    set_scene(s, 3, 1, true);
+    set_row(s, w);
+    while (now_ns() - start < WARM_UP_NS) {
+        batch(&LIBRARY, s, w, 100);
+        batch(&OPTIMISED, s, w, 100);
+    }
+}
+
+/* ---- Tables ---- */
+
+static void print_row(const scene *s, const char *kind, const char *name, const timing t[SIDES])
+{
+    printf("| %u x %u | %s | %s | %.1f | %.1f | %.2f | %.1f | %.1f | %.2f |\n", s->n, s->m, kind,
+           name, t[0].minimum, t[1].minimum, t[0].minimum / t[1].minimum, t[0].median, t[1].median,
+           t[0].median / t[1].median);
+    fflush(stdout);
+}
+
+/* Each call and whole rounds on three sizes. */
+static void print_table(scene *s, unsigned samples)
+{
+    static const unsigned sizes[][2] = {{3, 1}, {5, 8}, {16, 32}};
+    timing t[SIDES];
+
+    printf("Times in nanoseconds; `library` / `C`, minimum and median of %u samples.\n\n", samples);
+    printf("| table | configurations | call | library min | C min | ratio | library median | "
+           "C median | ratio |\n|---|---|---|---|---|---|---|---|---|\n");
+    for (unsigned size = 0; size < sizeof sizes / sizeof sizes[0]; size++) {
+        for (int alike = 1; alike >= 0; alike--) {
+            for (unsigned i = 0; i < ROW_COUNT; i++) {
+                set_scene(s, sizes[size][0], sizes[size][1], alike != 0);
+                set_row(s, &ROWS[i]);
+                measure(s, &ROWS[i], samples, t);
+                print_row(s, alike ? "alike" : "different", ROWS[i].name, t);
+            }
+        }
+    }
+}
+
+static const row *row_named(const char *name)
+{
+    for (unsigned i = 0; i < ROW_COUNT; i++) {
+        if (strcmp(ROWS[i].name, name) == 0) {
+            return &ROWS[i];
+        }
+    }
+    give_up("no row", name);
+}
+
+/* One line of the growth table: minima. */
+static void print_growth_row(scene *s, const char *label, const char *name, unsigned samples)
+{
+    const row *w = row_named(name);
+    timing t[SIDES];
+
+    set_row(s, w);
+    measure(s, w, samples, t);
+    printf("%s,%u,%u,%u,%.1f,%.1f\n", label, s->n, s->m, s->n * s->m, t[0].minimum, t[1].minimum);
+    fflush(stdout);
+}
+
+/* A poll and a lay on tables from one copy to the most. */
+static void print_growth(scene *s, unsigned samples)
+{
+    static const unsigned sizes[][2] = {{1, 1},  {2, 1},  {2, 2},  {4, 2},   {4, 4},
+                                        {8, 4},  {8, 8},  {16, 8}, {16, 16}, {16, 32}};
+
+    printf("call,n,m,copies,library_ns,c_ns\n");
+    for (unsigned i = 0; i < sizeof sizes / sizeof sizes[0]; i++) {
+        unsigned n = sizes[i][0];
+        unsigned m = sizes[i][1];
+        set_scene(s, n, m, true);
+        print_growth_row(s, "lay", "lay", samples);
+        set_scene(s, n, m, true);
+        print_growth_row(s, "poll (alike)", "poll", samples);
+        if (n > 2) {
+            set_scene(s, n, m, false);
+            print_growth_row(s, "poll (different)", "poll", samples);
+        }
+    }
+}
+
+int main(int argc, char **argv)
+{
+    static scene s;
+    unsigned samples = 2001;
+    bool growth = false;
+
+    for (int i = 1; i < argc; i++) {
+        if (strcmp(argv[i], "--growth") == 0) {
+            growth = true;
+        } else if (strcmp(argv[i], "--samples") == 0 && i + 1 < argc) {
+            samples = (unsigned)strtoul(argv[++i], NULL, 10);
+        } else {
+            give_up("unknown option", argv[i]);
+        }
+    }
+    if (samples < 1 || samples > SAMPLES_MOST) {
+        give_up("samples", "1 to 10001");
+    }
+    warm_up(&s);
+    if (growth) {
+        print_growth(&s, samples);
+    } else {
+        print_table(&s, samples);
+    }
+    return EXIT_SUCCESS;
+}

@@ -1,0 +1,580 @@
+/*
+ * Document 01 by hand for speed, with every check at every call.
+ *
+ * Bytes are read and written as 64-bit words, so this file is for hosts that
+ * keep the least significant byte first. A word of a configuration has four
+ * station sets in lanes of 16 bits, and tests work on all four at once.
+ */
+#include "optimised.h"
+
+#include <stdbool.h>
+#include <string.h>
+
+#if __BYTE_ORDER__ != __ORDER_LITTLE_ENDIAN__
+#error "this host does not keep the least significant byte first"
+#endif
+
+enum { HEAD = 56, COPY = 56, BLOCK = 8 };
+
+/* Offsets in a copy. */
+enum { VERSION = 0, VALUE = 8, GENERATION = 16, CONFIGURATION = 24 };
+
+#define ONES UINT64_C(0x0001000100010001) /* the lowest bit of each lane */
+#define TOPS UINT64_C(0x8000800080008000) /* the highest bit of each lane */
+
+/* One side of a configuration: its eight sets. */
+typedef struct {
+    uint64_t low;
+    uint64_t high;
+} side;
+
+typedef struct {
+    side read;
+    side write;
+} configuration;
+
+/* The head of a table; its sets as numbers of 16 bits. */
+typedef struct {
+    uint64_t n;
+    uint64_t m;
+    uint64_t off;
+    uint64_t round;
+    uint64_t item;
+    uint64_t polled;
+    uint64_t data_puts;
+    uint64_t configuration_puts;
+    uint64_t value;
+    configuration target;
+} head;
+
+/* ---- Replies ---- */
+
+static inline ospreyscreen_reply done(uint64_t first, uint64_t second, uint64_t third)
+{
+    return (ospreyscreen_reply){OSPREYSCREEN_DONE, first, second, third};
+}
+
+static inline ospreyscreen_reply refused(uint64_t number)
+{
+    return (ospreyscreen_reply){number, 0, 0, 0};
+}
+
+/* ---- Bytes ---- */
+
+static inline uint64_t get_word(const uint8_t *at)
+{
+    uint64_t word;
+    memcpy(&word, at, sizeof word);
+    return word;
+}
+
+static inline void set_word(uint8_t *at, uint64_t word)
+{
+    memcpy(at, &word, sizeof word);
+}
+
+static inline void set_pair(uint8_t *at, uint64_t set)
+{
+    uint16_t pair = (uint16_t)set;
+    memcpy(at, &pair, sizeof pair);
+}
+
+static inline configuration get_configuration(const uint8_t *at)
+{
+    return (configuration){{get_word(at), get_word(at + 8)}, {get_word(at + 16), get_word(at + 24)}};
+}
+
+/* ---- Station sets and configurations ---- */
+
+/* The highest bit of each lane that is not zero. */
+static inline uint64_t used(uint64_t sets)
+{
+    return (((sets & ~TOPS) + ~TOPS) | sets) & TOPS;
+}
+
+/* The sets with all stations in each unused place. */
+static inline uint64_t filled(uint64_t sets, uint64_t used_tops)
+{
+    uint64_t unused = (TOPS ^ used_tops) >> 15;
+    return sets | ((unused << 16) - unused);
+}
+
+/* Both sides at once: the used read places as the highest bits of their
+ * lanes, the used write places as the bits below. Not zero if an unused place
+ * stands in front of a used one, or if a first place is unused. */
+static inline uint64_t gaps(side read_used, side write_used)
+{
+    side both = {read_used.low | write_used.low >> 1, read_used.high | write_used.high >> 1};
+    uint64_t next = both.low >> 16 | both.high << 48;
+    return (~both.low & (next | 0xC000)) | (~both.high & both.high >> 16);
+}
+
+/* All top bits if no lane of the word is zero, and not all of them else: the
+ * complement of (word - ONES) & ~word, as ~(word - ONES) is ONES - 1 - word. */
+static inline uint64_t no_zero_lane(uint64_t word)
+{
+    return (ONES - 1 - word) | word;
+}
+
+static inline uint64_t turned(uint64_t sets)
+{
+    return sets >> 16 | sets << 48;
+}
+
+/* All top bits if each set of one side shares a station with each set of the
+ * other; in each turn every set meets two others. */
+static inline uint64_t meet(side a, side b)
+{
+    uint64_t met = TOPS;
+    for (int turn = 0; turn < 4; turn++) {
+        met &= no_zero_lane(a.low & b.low);
+        met &= no_zero_lane(a.low & b.high);
+        met &= no_zero_lane(a.high & b.low);
+        met &= no_zero_lane(a.high & b.high);
+        a.low = turned(a.low);
+        a.high = turned(a.high);
+    }
+    return met;
+}
+
+static inline bool valid(configuration c, uint64_t n)
+{
+    uint64_t outside = (UINT64_C(0xFFFF) << n & 0xFFFF) * ONES;
+    uint64_t named = c.read.low | c.read.high | c.write.low | c.write.high;
+    side read_used = {used(c.read.low), used(c.read.high)};
+    side write_used = {used(c.write.low), used(c.write.high)};
+    side read = {filled(c.read.low, read_used.low), filled(c.read.high, read_used.high)};
+    side write = {filled(c.write.low, write_used.low), filled(c.write.high, write_used.high)};
+
+    return ((meet(read, write) ^ TOPS) | gaps(read_used, write_used) | (named & outside)) == 0;
+}
+
+/* Whether the stations hold a used set of the side. */
+static inline bool holds(uint64_t stations, side s)
+{
+    uint64_t lacking = ~(stations * ONES);
+    return ((used(s.low) & ~used(s.low & lacking)) | (used(s.high) & ~used(s.high & lacking))) != 0;
+}
+
+static inline uint64_t difference(configuration a, configuration b)
+{
+    return (a.read.low ^ b.read.low) | (a.read.high ^ b.read.high) | (a.write.low ^ b.write.low) |
+           (a.write.high ^ b.write.high);
+}
+
+/* ---- Soundness ---- */
+
+/* Tests copies one by one; one that equals the last valid one needs no test. */
+static inline bool copies_valid(const uint8_t *at, size_t count, configuration *last, uint64_t n)
+{
+    for (; count > 0; count--, at += COPY) {
+        configuration c = get_configuration(at + CONFIGURATION);
+        if (difference(c, *last) != 0) {
+            if (!valid(c, n)) {
+                return false;
+            }
+            *last = c;
+        }
+    }
+    return true;
+}
+
+/* Not zero if some copy of the block has another configuration. Each word
+ * has a sum of its own, which lets the compiler take two words at once. */
+static inline uint64_t block_difference(const uint8_t *at, configuration last)
+{
+    configuration sum = {{0, 0}, {0, 0}};
+    for (int i = 0; i < BLOCK; i++, at += COPY) {
+        sum.read.low |= get_word(at + CONFIGURATION) ^ last.read.low;
+        sum.read.high |= get_word(at + CONFIGURATION + 8) ^ last.read.high;
+        sum.write.low |= get_word(at + CONFIGURATION + 16) ^ last.write.low;
+        sum.write.high |= get_word(at + CONFIGURATION + 24) ^ last.write.high;
+    }
+    return sum.read.low | sum.read.high | sum.write.low | sum.write.high;
+}
+
+static bool all_copies_valid(const uint8_t *at, size_t count, uint64_t n)
+{
+    configuration last = get_configuration(at + CONFIGURATION);
+    if (!valid(last, n)) {
+        return false;
+    }
+    at += COPY;
+    count -= 1;
+    for (; count >= BLOCK; count -= BLOCK, at += COPY * BLOCK) {
+        if (block_difference(at, last) != 0 && !copies_valid(at, BLOCK, &last, n)) {
+            return false;
+        }
+    }
+    return copies_valid(at, count, &last, n);
+}
+
+/* The clauses on the head that depend on the kind of round. */
+static inline bool sound_round(const head *h)
+{
+    uint64_t target = h->target.read.low | h->target.read.high | h->target.write.low |
+                      h->target.write.high;
+
+    switch (h->round) {
+    case OSPREYSCREEN_ROUND_NONE:
+        return (h->item | h->polled | h->data_puts | h->configuration_puts | h->value | target) == 0;
+    case OSPREYSCREEN_ROUND_READ:
+        return (h->data_puts | h->configuration_puts | h->value | target) == 0;
+    case OSPREYSCREEN_ROUND_WRITE:
+        return (h->configuration_puts | target) == 0;
+    case OSPREYSCREEN_ROUND_CHANGE:
+        return h->value == 0 && valid(h->target, h->n);
+    default:
+        return false;
+    }
+}
+
+static inline bool listed(uint64_t n, uint64_t m)
+{
+    return n - 1 < OSPREYSCREEN_STATIONS_MAX && m - 1 < OSPREYSCREEN_ITEMS_MAX;
+}
+
+/* Reads the head; false if the table is not sound. */
+static inline bool read_sound(head *h, const uint8_t *table, size_t len)
+{
+    if (len < HEAD) {
+        return false;
+    }
+    uint64_t first = get_word(table);
+    uint64_t second = get_word(table + 8);
+
+    h->n = first & 0xFF;
+    h->m = first >> 8 & 0xFF;
+    h->off = first >> 16 & 0xFFFF;
+    h->round = first >> 32 & 0xFF;
+    h->item = first >> 40 & 0xFF;
+    h->polled = first >> 48;
+    h->data_puts = second & 0xFFFF;
+    h->configuration_puts = second >> 16 & 0xFFFF;
+    h->value = get_word(table + 16);
+    h->target = get_configuration(table + 24);
+    if (!listed(h->n, h->m) || len != HEAD + COPY * h->n * h->m) {
+        return false;
+    }
+    uint64_t puts = h->data_puts | h->configuration_puts;
+    uint64_t named = h->off | h->polled | puts;
+    if (h->item >= h->m || named >> h->n != 0 || (puts & h->off) != 0 || second >> 32 != 0) {
+        return false;
+    }
+    return sound_round(h) && all_copies_valid(table + HEAD, h->n * h->m, h->n);
+}
+
+/* ---- Rounds ---- */
+
+static inline uint8_t *item_copies(uint8_t *table, const head *h, uint64_t item)
+{
+    return table + HEAD + COPY * h->n * item;
+}
+
+/* The copy with the highest counter at the offset, the lowest station among
+ * equals; the set is not empty. */
+static inline const uint8_t *newest(const uint8_t *copies, uint64_t stations, size_t counter)
+{
+    const uint8_t *best = copies + COPY * __builtin_ctzll(stations);
+    uint64_t highest = get_word(best + counter);
+
+    for (stations &= stations - 1; stations != 0; stations &= stations - 1) {
+        const uint8_t *copy = copies + COPY * __builtin_ctzll(stations);
+        uint64_t number = get_word(copy + counter);
+        if (number > highest) {
+            highest = number;
+            best = copy;
+        }
+    }
+    return best;
+}
+
+/* The polled copy with the configuration found; null if the round is unheard. */
+static inline const uint8_t *heard(const uint8_t *copies, uint64_t polled)
+{
+    if (polled == 0) {
+        return NULL;
+    }
+    const uint8_t *found = newest(copies, polled, GENERATION);
+    return holds(polled, get_configuration(found + CONFIGURATION).read) ? found : NULL;
+}
+
+/* Clears the head from the round on; the zero bytes are zero already. */
+static inline void close_round(uint8_t *table)
+{
+    memset(table + 4, 0, HEAD - 4);
+}
+
+/* ---- The calls ---- */
+
+ospreyscreen_reply opt_lay(uint8_t *table, size_t len, uint64_t n, uint64_t m, uint64_t value,
+                           const uint8_t *config, size_t config_len)
+{
+    if (!listed(n, m)) {
+        return refused(OSPREYSCREEN_NO_SUCH_THING);
+    }
+    if (len != HEAD + COPY * n * m) {
+        return refused(OSPREYSCREEN_UNSOUND);
+    }
+    if (config_len != OSPREYSCREEN_CONFIGURATION_LENGTH || !valid(get_configuration(config), n)) {
+        return refused(OSPREYSCREEN_FALSE_CONFIGURATION);
+    }
+    memset(table, 0, HEAD);
+    table[0] = (uint8_t)n;
+    table[1] = (uint8_t)m;
+
+    uint8_t *copies = table + HEAD;
+    set_word(copies + VERSION, 0);
+    set_word(copies + VALUE, value);
+    set_word(copies + GENERATION, 0);
+    memcpy(copies + CONFIGURATION, config, OSPREYSCREEN_CONFIGURATION_LENGTH);
+    size_t total = len - HEAD;
+    size_t filled_to = COPY;
+    for (; filled_to <= total / 2; filled_to *= 2) {
+        memcpy(copies + filled_to, copies, filled_to);
+    }
+    memcpy(copies + filled_to, copies, total - filled_to);
+    return done(0, 0, 0);
+}
+
+static inline ospreyscreen_reply open_round(uint8_t *table, size_t len, uint64_t kind, uint64_t item,
+                                            uint64_t value)
+{
+    head h;
+
+    if (!read_sound(&h, table, len)) {
+        return refused(OSPREYSCREEN_UNSOUND);
+    }
+    if (item >= h.m) {
+        return refused(OSPREYSCREEN_NO_SUCH_THING);
+    }
+    if (h.round != OSPREYSCREEN_ROUND_NONE) {
+        return refused(OSPREYSCREEN_BUSY);
+    }
+    table[4] = (uint8_t)kind;
+    table[5] = (uint8_t)item;
+    set_word(table + 16, value);
+    return done(0, 0, 0);
+}
+
+ospreyscreen_reply opt_open_read(uint8_t *table, size_t len, uint64_t item)
+{
+    return open_round(table, len, OSPREYSCREEN_ROUND_READ, item, 0);
+}
+
+ospreyscreen_reply opt_open_write(uint8_t *table, size_t len, uint64_t item, uint64_t value)
+{
+    return open_round(table, len, OSPREYSCREEN_ROUND_WRITE, item, value);
+}
+
+ospreyscreen_reply opt_open_change(uint8_t *table, size_t len, uint64_t item,
+                                   const uint8_t *target, size_t target_len)
+{
+    head h;
+
+    if (!read_sound(&h, table, len)) {
+        return refused(OSPREYSCREEN_UNSOUND);
+    }
+    if (item >= h.m) {
+        return refused(OSPREYSCREEN_NO_SUCH_THING);
+    }
+    if (target_len != OSPREYSCREEN_CONFIGURATION_LENGTH || !valid(get_configuration(target), h.n)) {
+        return refused(OSPREYSCREEN_FALSE_CONFIGURATION);
+    }
+    if (h.round != OSPREYSCREEN_ROUND_NONE) {
+        return refused(OSPREYSCREEN_BUSY);
+    }
+    table[4] = OSPREYSCREEN_ROUND_CHANGE;
+    table[5] = (uint8_t)item;
+    memcpy(table + 24, target, OSPREYSCREEN_CONFIGURATION_LENGTH);
+    return done(0, 0, 0);
+}
+
+ospreyscreen_reply opt_poll(uint8_t *table, size_t len, uint64_t station)
+{
+    head h;
+
+    if (!read_sound(&h, table, len)) {
+        return refused(OSPREYSCREEN_UNSOUND);
+    }
+    if (station >= h.n) {
+        return refused(OSPREYSCREEN_NO_SUCH_THING);
+    }
+    if (h.round == OSPREYSCREEN_ROUND_NONE) {
+        return refused(OSPREYSCREEN_IDLE);
+    }
+    if ((h.off >> station & 1) != 0) {
+        return refused(OSPREYSCREEN_OFF_THE_BUS);
+    }
+    if ((h.data_puts | h.configuration_puts) != 0) {
+        return refused(OSPREYSCREEN_READING_OVER);
+    }
+    uint64_t polled = h.polled | UINT64_C(1) << station;
+    set_pair(table + 6, polled);
+    return done(heard(item_copies(table, &h, h.item), polled) != NULL, 0, 0);
+}
+
+/* Whether the counter that the round raises is at its end. */
+static inline bool spent(const head *h, const uint8_t *copies, const uint8_t *found)
+{
+    if (h->round == OSPREYSCREEN_ROUND_WRITE) {
+        return get_word(newest(copies, h->polled, VERSION) + VERSION) == UINT64_MAX;
+    }
+    return h->round == OSPREYSCREEN_ROUND_CHANGE && get_word(found + GENERATION) == UINT64_MAX;
+}
+
+ospreyscreen_reply opt_put(uint8_t *table, size_t len, uint64_t station, uint64_t sort)
+{
+    head h;
+
+    if (!read_sound(&h, table, len)) {
+        return refused(OSPREYSCREEN_UNSOUND);
+    }
+    if (station >= h.n || sort - 1 > 1) {
+        return refused(OSPREYSCREEN_NO_SUCH_THING);
+    }
+    if (h.round == OSPREYSCREEN_ROUND_NONE) {
+        return refused(OSPREYSCREEN_IDLE);
+    }
+    if ((h.off >> station & 1) != 0) {
+        return refused(OSPREYSCREEN_OFF_THE_BUS);
+    }
+    const uint8_t *copies = item_copies(table, &h, h.item);
+    const uint8_t *found = heard(copies, h.polled);
+    if (found == NULL) {
+        return refused(OSPREYSCREEN_UNHEARD);
+    }
+    /* A read takes no put, a write data puts, a change both sorts. */
+    if (h.round <= sort) {
+        return refused(OSPREYSCREEN_WRONG_PUT);
+    }
+    /* A data put of a change raises no counter. */
+    if (h.round == sort + 1 && spent(&h, copies, found)) {
+        return refused(OSPREYSCREEN_SPENT);
+    }
+    uint64_t puts = sort == OSPREYSCREEN_PUT_DATA ? h.data_puts : h.configuration_puts;
+    set_pair(table + 6 + 2 * sort, puts | UINT64_C(1) << station);
+    return done(0, 0, 0);
+}
+
+/* The data puts at the stations take effect. */
+static inline void store_data(uint8_t *copies, uint64_t stations, uint64_t version, uint64_t value)
+{
+    for (; stations != 0; stations &= stations - 1) {
+        uint8_t *copy = copies + COPY * __builtin_ctzll(stations);
+        set_word(copy + VERSION, version);
+        set_word(copy + VALUE, value);
+    }
+}
+
+/* The configuration puts at the stations take effect. */
+static inline void store_configuration(uint8_t *copies, uint64_t stations, uint64_t generation,
+                                       configuration c)
+{
+    for (; stations != 0; stations &= stations - 1) {
+        uint8_t *copy = copies + COPY * __builtin_ctzll(stations);
+        set_word(copy + GENERATION, generation);
+        memcpy(copy + CONFIGURATION, &c, sizeof c);
+    }
+}
+
+static inline bool enough_puts(const head *h, configuration found)
+{
+    switch (h->round) {
+    case OSPREYSCREEN_ROUND_WRITE:
+        return holds(h->data_puts, found.write);
+    case OSPREYSCREEN_ROUND_CHANGE:
+        return holds(h->data_puts, h->target.write) && holds(h->configuration_puts, found.write);
+    default:
+        return true;
+    }
+}
+
+ospreyscreen_reply opt_commit(uint8_t *table, size_t len)
+{
+    head h;
+
+    if (!read_sound(&h, table, len)) {
+        return refused(OSPREYSCREEN_UNSOUND);
+    }
+    if (h.round == OSPREYSCREEN_ROUND_NONE) {
+        return refused(OSPREYSCREEN_IDLE);
+    }
+    uint8_t *copies = item_copies(table, &h, h.item);
+    const uint8_t *found = heard(copies, h.polled);
+    if (found == NULL) {
+        return refused(OSPREYSCREEN_UNHEARD);
+    }
+    if (spent(&h, copies, found)) {
+        return refused(OSPREYSCREEN_SPENT);
+    }
+    if (!enough_puts(&h, get_configuration(found + CONFIGURATION))) {
+        return refused(OSPREYSCREEN_SHORT);
+    }
+    bool write = h.round == OSPREYSCREEN_ROUND_WRITE;
+    bool change = h.round == OSPREYSCREEN_ROUND_CHANGE;
+    const uint8_t *data = newest(copies, h.polled, VERSION);
+    uint64_t version = get_word(data + VERSION) + write;
+    uint64_t value = write ? h.value : get_word(data + VALUE);
+    uint64_t generation = get_word(found + GENERATION) + change;
+    store_data(copies, h.data_puts, version, value);
+    store_configuration(copies, h.configuration_puts, generation, h.target);
+    close_round(table);
+    return done(value, version, generation);
+}
+
+ospreyscreen_reply opt_abandon(uint8_t *table, size_t len)
+{
+    head h;
+
+    if (!read_sound(&h, table, len)) {
+        return refused(OSPREYSCREEN_UNSOUND);
+    }
+    if (h.round == OSPREYSCREEN_ROUND_NONE) {
+        return refused(OSPREYSCREEN_IDLE);
+    }
+    close_round(table);
+    return done(0, 0, 0);
+}
+
+ospreyscreen_reply opt_link(uint8_t *table, size_t len, uint64_t station, uint64_t state)
+{
+    head h;
+
+    if (!read_sound(&h, table, len)) {
+        return refused(OSPREYSCREEN_UNSOUND);
+    }
+    if (station >= h.n || state > 1) {
+        return refused(OSPREYSCREEN_NO_SUCH_THING);
+    }
+    uint64_t one = UINT64_C(1) << station;
+    if (state == OSPREYSCREEN_LINK_ON) {
+        set_pair(table + 2, h.off & ~one);
+    } else {
+        set_pair(table + 2, h.off | one);
+        set_pair(table + 8, h.data_puts & ~one);
+        set_pair(table + 10, h.configuration_puts & ~one);
+    }
+    return done(0, 0, 0);
+}
+
+ospreyscreen_reply opt_reach(uint8_t *table, size_t len, uint64_t item)
+{
+    head h;
+
+    if (!read_sound(&h, table, len)) {
+        return refused(OSPREYSCREEN_UNSOUND);
+    }
+    if (item >= h.m) {
+        return refused(OSPREYSCREEN_NO_SUCH_THING);
+    }
+    uint64_t all = (UINT64_C(1) << h.n) - 1;
+    uint64_t on = all & ~h.off;
+    const uint8_t *found = newest(item_copies(table, &h, item), all, GENERATION);
+    configuration c = get_configuration(found + CONFIGURATION);
+    if (!holds(on, c.read)) {
+        return done(OSPREYSCREEN_REACH_NOTHING, 0, 0);
+    }
+    bool writable = holds(on, c.write);
+    return done(writable ? OSPREYSCREEN_REACH_READ_AND_WRITE : OSPREYSCREEN_REACH_READ, 0, 0);
+}

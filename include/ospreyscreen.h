@@ -1,0 +1,206 @@
+/*
+ * Ospreyscreen: replicated items in one lent table of bytes, as document 01
+ * lays it down.
+ *
+ * A station is a replica, an item a logical object, a round a logical access.
+ * A table holds one copy of each of its m items at each of its n stations.
+ * Rounds read an item, write it, or change its configuration, which says what
+ * station sets are read quorums and write quorums. One round is open at a
+ * time; it takes effect as a whole at its commit.
+ *
+ * Rules for the caller:
+ * - The table and the configuration that a call gets are lent for that call.
+ *   They must not overlap. A null pointer goes with length 0 only.
+ * - Calls on one table must not run at the same time.
+ * - A table needs no alignment. Nobody else writes it between calls.
+ *
+ * What every call keeps to:
+ * - Any bytes and any numbers are answered: there is nothing else that a
+ *   caller has to see to before a call.
+ * - A refusal (a number other than 0) changes no byte and has zero figures.
+ * - Figures that a call does not name below are zero.
+ * - Where more than one refusal applies, the call gives the one that stands
+ *   first in its list below.
+ */
+#ifndef OSPREYSCREEN_H
+#define OSPREYSCREEN_H
+
+#include <stddef.h>
+#include <stdint.h>
+
+#ifdef __cplusplus
+extern "C" {
+#endif
+
+/* Limits and sizes; lengths are in bytes. */
+#define OSPREYSCREEN_STATIONS_MAX 16
+#define OSPREYSCREEN_ITEMS_MAX 32
+#define OSPREYSCREEN_SETS_PER_SIDE 8
+#define OSPREYSCREEN_HEAD_LENGTH 56
+#define OSPREYSCREEN_COPY_LENGTH 56
+#define OSPREYSCREEN_CONFIGURATION_LENGTH 32
+#define OSPREYSCREEN_TABLE_LENGTH_MAX 28728
+
+/* The only length that fits a table of n stations and m items. */
+#define OSPREYSCREEN_TABLE_LENGTH(n, m) (56u * (1u + 1u * (n) * (m)))
+
+/* The number of a reply. */
+enum ospreyscreen_number {
+    OSPREYSCREEN_DONE = 0,
+    OSPREYSCREEN_UNSOUND = 1,             /* the table is not sound; at lay, its length does not fit */
+    OSPREYSCREEN_NO_SUCH_THING = 2,       /* station, item, put sort, link state, n or m out of range */
+    OSPREYSCREEN_FALSE_CONFIGURATION = 3, /* the configuration is not valid */
+    OSPREYSCREEN_BUSY = 4,                /* an opening while a round is open */
+    OSPREYSCREEN_IDLE = 5,                /* no round is open */
+    OSPREYSCREEN_OFF_THE_BUS = 6,         /* the station is off */
+    OSPREYSCREEN_READING_OVER = 7,        /* a poll after a put */
+    OSPREYSCREEN_UNHEARD = 8,             /* the polled stations hold no read set */
+    OSPREYSCREEN_WRONG_PUT = 9,           /* a put in a read, or a configuration put in a write */
+    OSPREYSCREEN_SPENT = 10,              /* the version or generation to be raised is 2^64 - 1 */
+    OSPREYSCREEN_SHORT = 11,              /* the puts lack a write set */
+    OSPREYSCREEN_FALSE_FRAME = 12         /* given by the frame runner only, by no call below */
+};
+
+/* The calls, numbered as the frame runner's frames number them. */
+enum ospreyscreen_call {
+    OSPREYSCREEN_LAY = 1,
+    OSPREYSCREEN_OPEN_READ = 2,
+    OSPREYSCREEN_OPEN_WRITE = 3,
+    OSPREYSCREEN_OPEN_CHANGE = 4,
+    OSPREYSCREEN_POLL = 5,
+    OSPREYSCREEN_PUT = 6,
+    OSPREYSCREEN_COMMIT = 7,
+    OSPREYSCREEN_ABANDON = 8,
+    OSPREYSCREEN_LINK = 9,
+    OSPREYSCREEN_REACH = 10
+};
+
+/* The kind of round that is open, as byte 4 of a table's head keeps it. */
+enum ospreyscreen_round {
+    OSPREYSCREEN_ROUND_NONE = 0,
+    OSPREYSCREEN_ROUND_READ = 1,
+    OSPREYSCREEN_ROUND_WRITE = 2,
+    OSPREYSCREEN_ROUND_CHANGE = 3
+};
+
+/* The sort of a put. */
+enum ospreyscreen_sort {
+    OSPREYSCREEN_PUT_DATA = 1,
+    OSPREYSCREEN_PUT_CONFIGURATION = 2
+};
+
+/* The state of a station's link. */
+enum ospreyscreen_state {
+    OSPREYSCREEN_LINK_OFF = 0,
+    OSPREYSCREEN_LINK_ON = 1
+};
+
+/* What the stations on the bus can do with an item: reach's figure. */
+enum ospreyscreen_reach {
+    OSPREYSCREEN_REACH_NOTHING = 0,
+    OSPREYSCREEN_REACH_READ = 1,
+    OSPREYSCREEN_REACH_READ_AND_WRITE = 3
+};
+
+/* What every call returns, by value: the number and three figures. */
+typedef struct {
+    uint64_t number;
+    uint64_t first;
+    uint64_t second;
+    uint64_t third;
+} ospreyscreen_reply;
+
+/*
+ * Lays a table: n stations, 1 to 16, all on the bus; m items, 1 to 32, all at
+ * the starting value with version 0, generation 0 and the configuration
+ * given; no round. Looks at no old byte of the table and writes every byte.
+ * A configuration is 32 bytes: eight read sets, then eight write sets, two
+ * bytes each, least significant byte first, bit i for station i. Unused
+ * places are zero and come last on each side. It is valid if each side has a
+ * used place, no set names a station n or above, and every read set shares a
+ * station with every write set. Any other length is not valid.
+ * Refusals: 2 n or m, 1 len is not OSPREYSCREEN_TABLE_LENGTH(n, m),
+ * 3 the configuration.
+ */
+ospreyscreen_reply ospreyscreen_lay(uint8_t *table, size_t len, uint64_t n, uint64_t m,
+                                    uint64_t value, const uint8_t *config, size_t config_len);
+
+/*
+ * Opens a round that reads the item.
+ * Refusals: 1 table, 2 item, 4 a round is open.
+ */
+ospreyscreen_reply ospreyscreen_open_read(uint8_t *table, size_t len, uint64_t item);
+
+/*
+ * Opens a round that writes the value to the item.
+ * Refusals: 1 table, 2 item, 4 a round is open.
+ */
+ospreyscreen_reply ospreyscreen_open_write(uint8_t *table, size_t len, uint64_t item,
+                                           uint64_t value);
+
+/*
+ * Opens a round that changes the item's configuration to the target.
+ * Refusals: 1 table, 2 item, 3 the target, 4 a round is open.
+ */
+ospreyscreen_reply ospreyscreen_open_change(uint8_t *table, size_t len, uint64_t item,
+                                            const uint8_t *target, size_t target_len);
+
+/*
+ * Polls the station: its copy now counts in the round. Polling a station
+ * again changes nothing.
+ * Figures: first is 1 if the round is now heard, else 0. A round is heard if
+ * the polled set holds a read set of the configuration found, which is the
+ * one of the highest generation among the polled copies.
+ * Refusals: 1 table, 2 station, 5 no round, 6 the station is off,
+ * 7 a put set is not empty.
+ */
+ospreyscreen_reply ospreyscreen_poll(uint8_t *table, size_t len, uint64_t station);
+
+/*
+ * Notes a put of the sort given at the station; the copy changes at the
+ * commit only. The same put again changes nothing.
+ * Refusals: 1 table, 2 station or sort, 5 no round, 6 the station is off,
+ * 8 the round is not heard, 9 a put in a read or a configuration put in a
+ * write, 10 the version found (a write) or the generation found (a
+ * configuration put of a change) is 2^64 - 1.
+ */
+ospreyscreen_reply ospreyscreen_put(uint8_t *table, size_t len, uint64_t station, uint64_t sort);
+
+/*
+ * Finishes the round: every put takes effect, and the round closes.
+ * Figures: the item's value, version and generation after the round.
+ * Refusals: 1 table, 5 no round, 8 the round is not heard, 10 the version
+ * found (a write) or the generation found (a change) is 2^64 - 1, 11 the data
+ * puts lack a write set of the configuration found (a write) or of the target
+ * (a change), or the configuration puts lack a write set of the configuration
+ * found (a change).
+ */
+ospreyscreen_reply ospreyscreen_commit(uint8_t *table, size_t len);
+
+/*
+ * Closes the round; no copy changes.
+ * Refusals: 1 table, 5 no round.
+ */
+ospreyscreen_reply ospreyscreen_abandon(uint8_t *table, size_t len);
+
+/*
+ * Takes the station off the bus (state 0) or back on (state 1). Going off
+ * takes it out of both put sets; it stays polled, and its copies are kept.
+ * Refusals: 1 table, 2 station or state.
+ */
+ospreyscreen_reply ospreyscreen_link(uint8_t *table, size_t len, uint64_t station, uint64_t state);
+
+/*
+ * Tells what the stations on the bus can do with the item, by the
+ * configuration of the highest generation among all its copies.
+ * Figures: first is 1 if they hold one of its read sets, 3 if also one of its
+ * write sets, else 0.
+ * Refusals: 1 table, 2 item.
+ */
+ospreyscreen_reply ospreyscreen_reach(uint8_t *table, size_t len, uint64_t item);
+
+#ifdef __cplusplus
+}
+#endif
+
+#endif

@@ -1,0 +1,138 @@
+"""Tests of tools/frames: fixed words, round trips, wrong words."""
+
+import pathlib
+import random
+import subprocess
+import sys
+import unittest
+
+TOOL = pathlib.Path(__file__).resolve().parents[2] / "tools" / "frames"
+LENGTHS = [43, 2, 10, 34, 2, 3, 1, 1, 3, 2]
+PAIRS = "030005000600" + "0" * 20
+
+# Words and the frame that they stand for.
+FRAMES = [
+    ("lay 3 1 500 read 0003 0005 0006 write 0003 0005 0006",
+     "010301F401000000000000" + PAIRS + PAIRS),
+    ("open read 0", "0200"),
+    ("open write 0 510", "0300FE01000000000000"),
+    ("open write 31 18446744073709551615", "031FFFFFFFFFFFFFFFFF"),
+    ("open change 0 read 0004 write 0004", "04000400" + "0" * 28 + "0400" + "0" * 28),
+    ("open change 2 read 0001 0000 0002 write", "0402010000000200" + "0" * 20 + "0" * 32),
+    ("poll 1", "0501"),
+    ("poll 255", "05FF"),
+    ("put 0 data", "060001"),
+    ("put 1 configuration", "060102"),
+    ("put 1 3", "060103"),
+    ("commit", "07"),
+    ("abandon", "08"),
+    ("link 2 off", "090200"),
+    ("link 2 on", "090201"),
+    ("link 2 7", "090207"),
+    ("reach 0", "0A00"),
+]
+
+ZEROS = "0" * 48
+
+# Reply lines and the words that they are shown as.
+REPLIES = [
+    ("0100" + ZEROS, "lay: done"),
+    ("0500" + ZEROS, "poll: done, not heard"),
+    ("050001" + ZEROS[2:], "poll: done, heard"),
+    ("0506" + ZEROS, "poll: refused, 6 off the bus"),
+    ("0700FE01000000000000" + "0100000000000000" + "0" * 16,
+     "commit: done, value 510, version 1, generation 0"),
+    ("0700" + "F" * 48,
+     "commit: done, value 18446744073709551615, version 18446744073709551615,"
+     " generation 18446744073709551615"),
+    ("070B" + ZEROS, "commit: refused, 11 short"),
+    ("0A00" + ZEROS, "reach: done, 0 nothing"),
+    ("0A0001" + ZEROS[2:], "reach: done, 1 read"),
+    ("0A0003" + ZEROS[2:], "reach: done, 3 read and write"),
+    ("0A0002" + ZEROS[2:], "reach: done, figures 2 0 0"),
+    ("000C" + ZEROS, "call 00: refused, 12 false frame"),
+    ("FF0C" + ZEROS, "call FF: refused, 12 false frame"),
+    ("010D" + ZEROS, "lay: refused, 13 unknown number"),
+    ("0801" + "0" * 46 + "80", "abandon: refused, 1 unsound, figures 0 0 9223372036854775808"),
+]
+
+FALSE_FRAMES = ["", "0", "07 ", "07\r", "0a00", "0700", "05", "0B", "00", "02GG", "5", "0" * 100,
+                "0500" + "\0", "05 0", "0506" + ZEROS.replace("0", "g")]
+
+WRONG_WORDS = [
+    "pole 1", "open", "open shut 0", "poll", "poll 1 2", "poll 256", "poll -1", "poll x", "poll 1_0",
+    "open write 0", "open write 0 18446744073709551616", "put 0", "put 0 datum", "put 0 256",
+    "link 0 maybe", "commit now", "lay 3 1 500", "lay 3 1 500 read 0003",
+    "lay 3 1 500 write 0003 read 0003", "open change 0 read 10000 write 0001",
+    "open change 0 read 0x01 write 0001", "open change 0 read write write",
+    "open change 0 read " + "0001 " * 9 + "write 0001",
+]
+
+
+def run(*arguments, text):
+    return subprocess.run([sys.executable, str(TOOL), *arguments], input=text.encode("latin-1"),
+                          capture_output=True, check=False)
+
+
+def output_lines(*arguments, lines):
+    result = run(*arguments, text="".join(line + "\n" for line in lines))
+    return result.stdout.decode("latin-1").splitlines(), result
+
+
+class FramesTool(unittest.TestCase):
+    def test_words_to_frames(self):
+        got, result = output_lines("encode", lines=[words for words, _ in FRAMES])
+        self.assertEqual(got, [frame for _, frame in FRAMES])
+        self.assertEqual(result.returncode, 0)
+
+    def test_frames_to_words(self):
+        got, _ = output_lines("decode", lines=[frame for _, frame in FRAMES])
+        self.assertEqual(got, [words for words, _ in FRAMES])
+
+    def test_replies_to_words(self):
+        got, _ = output_lines("decode", lines=[reply for reply, _ in REPLIES])
+        self.assertEqual(got, [words for _, words in REPLIES])
+
+    def test_false_frames(self):
+        got, result = output_lines("decode", lines=FALSE_FRAMES)
+        self.assertEqual(got, ["false frame"] * len(FALSE_FRAMES))
+        self.assertEqual(result.returncode, 0)
+
+    def test_random_frames_there_and_back(self):
+        source = random.Random(1)
+        frames = []
+        for _ in range(2000):
+            code = source.randrange(10)
+            data = bytes([code + 1]) + source.randbytes(LENGTHS[code] - 1)
+            frames.append(data.hex().upper())
+        words, _ = output_lines("decode", lines=frames)
+        self.assertNotIn("false frame", words)
+        back, result = output_lines("encode", lines=words)
+        self.assertEqual(back, frames)
+        self.assertEqual(result.returncode, 0)
+
+    def test_wrong_words(self):
+        for words in WRONG_WORDS:
+            with self.subTest(words=words):
+                got, result = output_lines("encode", lines=["# a comment", "", "commit", words])
+                self.assertEqual(got, ["07"])
+                self.assertEqual(result.returncode, 1)
+                self.assertIn(b"frames: line 4: ", result.stderr)
+
+    def test_lines(self):
+        self.assertEqual(run("decode", text="").stdout, b"")
+        self.assertEqual(run("decode", text="07").stdout, b"commit\n")
+        self.assertEqual(run("decode", text="\n07\n\n").stdout,
+                         b"false frame\ncommit\nfalse frame\n")
+        self.assertEqual(run("decode", "--beside", text="07\n\xff\n").stdout,
+                         b"07  commit\n\xff  false frame\n")
+
+    def test_usage(self):
+        for arguments in ([], ["other"], ["encode", "--beside"]):
+            result = run(*arguments, text="")
+            self.assertEqual(result.returncode, 2)
+            self.assertIn(b"usage: frames", result.stderr)
+
+
+if __name__ == "__main__":
+    unittest.main()

@@ -1,0 +1,129 @@
+"""Tests of a frame runner; expected lines are document 01's or derived by hand.
+
+usage: test_runner.py RUNNER
+"""
+
+import pathlib
+import select
+import subprocess
+import sys
+import unittest
+
+RUNNER = ""
+EXAMPLE = pathlib.Path(__file__).resolve().parents[2] / "examples" / "first-reading.hex"
+
+PAIRS = "030005000600" + "0" * 20
+LAY = "010301F401000000000000" + PAIRS + PAIRS
+
+# The frame case of document 01, then a write of 510 through stations 0 and 1
+# and a read through stations 1 and 2.
+EXAMPLE_REPLIES = [
+    "01" + "0" * 50,
+    "0200000000000000000000000000000000000000000000000000",
+    "0502000000000000000000000000000000000000000000000000",
+    "0500000000000000000000000000000000000000000000000000",
+    "0500010000000000000000000000000000000000000000000000",
+    "0700F40100000000000000000000000000000000000000000000",
+    "0300" + "0" * 48,
+    "0500" + "0" * 48,
+    "050001" + "0" * 46,
+    "0600" + "0" * 48,
+    "0600" + "0" * 48,
+    "0700FE010000000000000100000000000000" + "0" * 16,
+    "0200" + "0" * 48,
+    "0500" + "0" * 48,
+    "050001" + "0" * 46,
+    "0700FE010000000000000100000000000000" + "0" * 16,
+]
+
+# Lines that are no frames, with the call byte that their reply shows.
+FALSE_LINES = [
+    (b"", "00"), (b"0", "00"), (b"7", "00"), (b" 07", "00"), (b"07 ", "07"), (b"07\r", "07"),
+    (b"\r", "00"), (b"\0", "00"), (b"07\0", "07"), (b"0700", "07"), (b"0", "00"), (b"05", "05"),
+    (b"0500F", "05"), (b"050", "05"), (b"050001", "05"), (b"0a00", "00"), (b"0A0g", "0A"),
+    (b"0A", "0A"), (b"0B", "0B"), (b"00", "00"), (b"FF", "FF"), (b"fF", "00"), (b"F0F0", "F0"),
+    (b"GG", "00"), (b"0x05", "00"), (b"05\t0", "05"), (b"\xff07", "00"), (LAY.encode()[:-2], "01"),
+    (LAY.encode() + b"00", "01"), (LAY.encode() + b"0", "01"), (LAY.encode().lower(), "01"),
+    (b"0" * 100000, "00"), (b"07" * 50001, "07"), (b"F" * 65536, "FF"), (b"A" * 65537, "AA"),
+]
+
+# One frame of each call but lay.
+OTHER_CALLS = ["0200", "0300" + "0" * 16, "0400" + PAIRS + PAIRS, "0500", "060001", "07", "08",
+               "090001", "0A00"]
+
+
+def refused(code, number):
+    return f"{code}{number:02X}" + "0" * 48
+
+
+def run(data):
+    result = subprocess.run([RUNNER], input=data, capture_output=True, check=True, timeout=60)
+    return result.stdout
+
+
+def replies(lines):
+    output = run("".join(line + "\n" for line in lines).encode())
+    return output.decode().splitlines()
+
+
+class Runner(unittest.TestCase):
+    def test_example(self):
+        self.assertEqual(replies(EXAMPLE.read_text().splitlines()), EXAMPLE_REPLIES)
+
+    def test_false_lines(self):
+        output = run(b"".join(line + b"\n" for line, _ in FALSE_LINES))
+        expected = [refused(code, 12) for _, code in FALSE_LINES]
+        self.assertEqual(output.decode().splitlines(), expected)
+
+    def test_ends_of_lines(self):
+        self.assertEqual(run(b""), b"")
+        self.assertEqual(run(b"\n"), refused("00", 12).encode() + b"\n")
+        self.assertEqual(run(b"07"), refused("07", 1).encode() + b"\n")
+        self.assertEqual(run(b"07\n"), refused("07", 1).encode() + b"\n")
+        self.assertEqual(run(b"\n\n0"), 3 * (refused("00", 12).encode() + b"\n"))
+
+    def test_no_table_before_a_lay(self):
+        got = replies(OTHER_CALLS + ["01" + "00" * 42] + OTHER_CALLS)
+        unsound = [refused(line[:2], 1) for line in OTHER_CALLS]
+        self.assertEqual(got, unsound + [refused("01", 2)] + unsound)
+
+    def test_refused_lay_keeps_the_table(self):
+        too_many = "0111" + LAY[4:]
+        no_items = LAY[:4] + "00" + LAY[6:]
+        false = LAY[:22] + "0" * 64
+        got = replies([LAY, "0200", too_many, no_items, false, "0500", "0502", "07"])
+        self.assertEqual(got[2:5], [refused("01", 2), refused("01", 2), refused("01", 3)])
+        self.assertEqual(got[7], EXAMPLE_REPLIES[5])
+
+    def test_largest_table(self):
+        lay = "0110200A00000000000000" + "FFFF" + "0" * 28 + "FFFF" + "0" * 28
+        got = replies([lay, "021F", "0200", "022000", "0220", "0900FF", "0910FF"])
+        self.assertEqual(got, ["01" + "0" * 50, "02" + "0" * 50, refused("02", 4), refused("02", 12),
+                               refused("02", 2), refused("09", 2), refused("09", 2)])
+
+    def test_replies_come_at_once(self):
+        with subprocess.Popen([RUNNER], stdin=subprocess.PIPE, stdout=subprocess.PIPE,
+                              bufsize=0) as process:
+            for sent, expected in [(b"0", b""), (b"7\n0", refused("07", 1).encode() + b"\n"),
+                                   (b"8\n", refused("08", 1).encode() + b"\n")]:
+                process.stdin.write(sent)
+                wait = 10 if expected else 0.2
+                ready, _, _ = select.select([process.stdout], [], [], wait)
+                self.assertEqual(process.stdout.read(1000) if ready else b"", expected)
+            process.stdin.close()
+            self.assertEqual(process.wait(timeout=10), 0)
+
+    def test_closed_output_ends_the_runner(self):
+        with subprocess.Popen([RUNNER], stdin=subprocess.PIPE, stdout=subprocess.PIPE) as process:
+            process.stdout.close()
+            try:
+                process.stdin.write(b"07\n" * 100000)
+                process.stdin.close()
+            except BrokenPipeError:
+                pass
+            process.wait(timeout=10)
+
+
+if __name__ == "__main__":
+    RUNNER = sys.argv.pop(1)
+    unittest.main()
