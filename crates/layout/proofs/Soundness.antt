@@ -14,7 +14,8 @@ use Rattle.quorum.specs.Sets.{shares, within}
 use Rattle.quorum.specs.Configurations.{valid}
 use Rattle.quorum.proofs.Bytes.{number-none, number-suc}
 use Rattle.quorum.proofs.Tests.{and-left, and-right, and-both, all-true, true-all, all-below, below-all}
-use Rattle.layout.specs.Layout.{tableLength, kindAt, itemAt, polledAt, dataPutsAt, configPutsAt, spareAt, valueAt, targetAt, configSize}
+use Rattle.layout.proofs.Fields.{table-head}
+use Rattle.layout.specs.Layout.{headSize, tableLength, kindAt, itemAt, polledAt, dataPutsAt, configPutsAt, spareAt, valueAt, targetAt, configSize}
 use Rattle.layout.specs.Fields.{Kind, none, read, write, change, Round, stations, items, roundOf}
 use Rattle.layout.specs.Soundness.{roundSound, copiesValid, soundness, sound}
 use Rattle.layout.specs.View.{State, view}
@@ -157,3 +158,7 @@ sound-table t e = sound-facts t e
 
 pub is-sound : (t : List ℕ) → view t .isSound ≡ true → StateSound (view t)
 is-sound t e = sound-table t e .state
+
+-- a sound table has a head
+pub sound-head : (t : List ℕ) → sound t ≡ true → headSize ≤ length t
+sound-head t e = rw (sound-facts t e .size) (table-head (stations t) (items t))

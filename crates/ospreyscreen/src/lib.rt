@@ -18,12 +18,13 @@ use layout::head::set_polled;
 use layout::head::set_puts;
 use layout::head::set_round;
 use layout::head::stations;
+use rounds::newest::config_of;
+use rounds::newest::is_heard;
+use rounds::newest::newest_generation;
+use rounds::round::Round;
 use rules::Reply;
 use store::commit::commit_reply;
 use store::commit::plain;
-use store::newest::config_of;
-use store::newest::is_heard;
-use store::newest::newest_generation;
 use store::number::abandon_number;
 use store::number::lay_number;
 use store::number::link_number;
@@ -32,9 +33,8 @@ use store::number::open_number;
 use store::number::poll_number;
 use store::number::put_number;
 use store::number::reach_number;
-use store::round::Round;
-use store::write::finish;
-use store::write::lay_bytes;
+use writes::finish;
+use writes::lay_bytes;
 
 // 1 if the test holds, else 0.
 fn one_if(test: bool) -> u64

@@ -1,3 +1,1 @@
-pub mod Search
 pub mod Refusals
-pub mod Writes

@@ -19,8 +19,8 @@ use Rattle.layout.proofs.Soundness.{Sound, sound-facts}
 use Rattle.quorum.specs.Sets.{member}
 use Rattle.quorum.specs.Configurations.{valid, holdsRead, holdsWrite}
 use Rattle.rules.specs.Newest.{newest, copyOr, byVersion, byGeneration, hears, heard, foundByVersion, foundByGeneration}
-use Rattle.store.proofs.Search.{newest-below}
-use Rattle.store.specs.Found.{Below}
+use Rattle.rounds.proofs.Search.{newest-below}
+use Rattle.rounds.specs.Found.{Below}
 use Rattle.store.specs.Commit.{RoundFound}
 use Rattle.rules.specs.Rules.{idle, last}
 use Rattle.rules.specs.declared.Reply.{Reply}

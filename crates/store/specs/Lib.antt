@@ -1,3 +1,1 @@
-pub mod Round
-pub mod Found
 pub mod Commit

@@ -1,6 +1,3 @@
-// What the ten calls are made of: the search over the polled copies, the numbers, the outcome of a commit, and what is written.
+// The number of each call, and the outcome of a commit.
 pub mod commit;
-pub mod newest;
 pub mod number;
-pub mod round;
-pub mod write;

@@ -12,11 +12,6 @@ ghost use Rattle.layout.specs.View.{view};
 ghost use Rattle.rules.specs.Calls.{openRead, openChange, poll, put, abandon, link, reach};
 ghost use Rattle.rules.specs.Rules.{first, readingOver, spent, numberOf};
 ghost use Rattle.store.specs.Commit.{putKind, layNumber};
-use crate::newest::generation_of;
-use crate::newest::is_heard;
-use crate::newest::newest_generation;
-use crate::newest::newest_version;
-use crate::newest::version_of;
 use layout::head::config_puts;
 use layout::head::data_puts;
 use layout::head::item;
@@ -26,6 +21,11 @@ use layout::head::off_set;
 use layout::head::polled;
 use layout::head::stations;
 use layout::sound::is_sound;
+use rounds::newest::generation_of;
+use rounds::newest::is_heard;
+use rounds::newest::newest_generation;
+use rounds::newest::newest_version;
+use rounds::newest::version_of;
 
 pub const DONE: u64 = 0;
 

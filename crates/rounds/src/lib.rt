@@ -1,0 +1,3 @@
+// The open round: its station sets, and what its polled copies give.
+pub mod newest;
+pub mod round;
