@@ -31,7 +31,8 @@ same-length-2 c = search needs
 
 returns-2 : tie.Need-returns-2
 unfolding done
-returns-2 c = plain-finished _ (abandon) (c .before .before .before .before .before .before .abandon-number .ensures) refl (c .before .before .before .before .before .if1 .left) (c .plain2 .ensures) (c .before .before .before .set-round .ensures)
+returns-2 c =
+    plain-finished _ (abandon) (c .before .before .before .before .before .before .abandon-number .ensures) refl (c .before .before .before .before .before .if1 .left) (c .plain2 .ensures) (c .before .before .before .set-round .ensures)
 
 pub ospreyscreen-abandon-spec : {M : Type 1} → statement M
 ospreyscreen-abandon-spec =

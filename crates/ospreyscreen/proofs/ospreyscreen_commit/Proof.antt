@@ -19,7 +19,8 @@ same-length-2 : tie.Need-same-length-2
 same-length-2 c = search needs
 
 returns-2 : tie.Need-returns-2
-returns-2 c = commit-finished _ (c .before .before .before .before .before .before .commit-reply .ensures) (c .before .before .before .before .if1 .left) (c .before .before .finish .ensures)
+returns-2 c =
+    commit-finished _ (c .before .before .before .before .before .before .commit-reply .ensures) (c .before .before .before .before .if1 .left) (c .before .before .finish .ensures)
 
 pub ospreyscreen-commit-spec : {M : Type 1} → statement M
 ospreyscreen-commit-spec =

@@ -25,7 +25,8 @@ open-requires : tie.Need-open-requires
 open-requires c κs = passed-long _ (allowed (view _) (link _ _) (sym (c .before .before .link-number .ensures) ∙ c .before .if1 .left) .0)
 
 off-set-requires : tie.Need-off-set-requires
-off-set-requires c κs = passed-long _ (allowed (view _) (link _ _) (sym (c .before .before .before .before .link-number .ensures) ∙ c .before .before .before .if1 .left) .0)
+off-set-requires c κs =
+    passed-long _ (allowed (view _) (link _ _) (sym (c .before .before .before .before .link-number .ensures) ∙ c .before .before .before .if1 .left) .0)
 
 drop-requires : tie.Need-drop-requires
 drop-requires c κs = search needs
@@ -34,10 +35,12 @@ with-station-requires : tie.Need-with-station-requires
 with-station-requires c κs = search needs
 
 set-off-requires : tie.Need-set-off-requires
-set-off-requires c κs = passed-long _ (allowed (view _) (link _ _) (sym (c .before .before .before .before .before .before .before .before .before .link-number .ensures) ∙ c .before .before .before .before .before .before .before .before .if1 .left) .0)
+set-off-requires c κs =
+    passed-long _ (allowed (view _) (link _ _) (sym (c .before .before .before .before .before .before .before .before .before .link-number .ensures) ∙ c .before .before .before .before .before .before .before .before .if1 .left) .0)
 
 set-puts-requires : tie.Need-set-puts-requires
-set-puts-requires c κs = rw (c .before .before .before .set-off .kept .0) (passed-long _ (allowed (view _) (link _ _) (sym (c .before .before .before .before .before .before .before .before .before .before .before .before .before .link-number .ensures) ∙ c .before .before .before .before .before .before .before .before .before .before .before .before .if1 .left) .0))
+set-puts-requires c κs =
+    rw (c .before .before .before .set-off .kept .0) (passed-long _ (allowed (view _) (link _ _) (sym (c .before .before .before .before .before .before .before .before .before .before .before .before .before .link-number .ensures) ∙ c .before .before .before .before .before .before .before .before .before .before .before .before .if1 .left) .0))
 
 plain-requires-2 : tie.Need-plain-requires-2
 plain-requires-2 c κs = search needs
@@ -47,17 +50,27 @@ same-length-2 c = search needs
 
 returns-2 : tie.Need-returns-2
 unfolding done view
-returns-2 c = plain-finished _ (link _ _) (c .before .before .before .before .before .before .before .before .before .before .before .before .before .before .before .before .before .link-number .ensures) refl (c .before .before .before .before .before .before .before .before .before .before .before .before .before .before .before .before .if1 .left) (c .plain2 .ensures)
-    (c .before .before .before .set-puts .ensures ∙ rw (c .before .before .before .before .before .before .before .set-off .ensures, c .before .before .before .before .before .before .before .before .with-station .ensures, c .before .before .before .before .before .before .before .before .before .before .drop .ensures, c .before .before .before .before .before .before .before .before .before .before .before .before .before .before .«open» .ensures, c .before .before .before .before .before .before .before .before .before .before .before .before .off-set .ensures, eq-eqb _ _ (c .before .before .before .before .before .before .before .before .before .before .before .if2 .taken)))
+returns-2 c =
+    plain-finished _ (link _ _) (c .before .before .before .before .before .before .before .before .before .before .before .before .before .before .before .before .before .link-number .ensures) refl (c .before .before .before .before .before .before .before .before .before .before .before .before .before .before .before .before .if1 .left) (c .plain2 .ensures)
+    (c .before .before .before .set-puts .ensures ∙ rw (
+      c .before .before .before .before .before .before .before .set-off .ensures,
+      c .before .before .before .before .before .before .before .before .with-station .ensures,
+      c .before .before .before .before .before .before .before .before .before .before .drop .ensures,
+      c .before .before .before .before .before .before .before .before .before .before .before .before .before .before .«open» .ensures,
+      c .before .before .before .before .before .before .before .before .before .before .before .before .off-set .ensures,
+      eq-eqb _ _ (c .before .before .before .before .before .before .before .before .before .before .before .if2 .taken),
+    ))
 
 without-station-requires : tie.Need-without-station-requires
 without-station-requires c κs = search needs
 
 set-off-requires-2 : tie.Need-set-off-requires-2
-set-off-requires-2 c κs = passed-long _ (allowed (view _) (link _ _) (sym (c .before .before .before .before .before .before .before .before .link-number .ensures) ∙ c .before .before .before .before .before .before .before .if1 .left) .0)
+set-off-requires-2 c κs =
+    passed-long _ (allowed (view _) (link _ _) (sym (c .before .before .before .before .before .before .before .before .link-number .ensures) ∙ c .before .before .before .before .before .before .before .if1 .left) .0)
 
 set-puts-requires-2 : tie.Need-set-puts-requires-2
-set-puts-requires-2 c κs = rw (c .before .before .before .set-off2 .kept .0) (passed-long _ (allowed (view _) (link _ _) (sym (c .before .before .before .before .before .before .before .before .before .before .before .before .link-number .ensures) ∙ c .before .before .before .before .before .before .before .before .before .before .before .if1 .left) .0))
+set-puts-requires-2 c κs =
+    rw (c .before .before .before .set-off2 .kept .0) (passed-long _ (allowed (view _) (link _ _) (sym (c .before .before .before .before .before .before .before .before .before .before .before .before .link-number .ensures) ∙ c .before .before .before .before .before .before .before .before .before .before .before .if1 .left) .0))
 
 plain-requires-3 : tie.Need-plain-requires-3
 plain-requires-3 c κs = search needs
@@ -67,8 +80,15 @@ same-length-3 c = search needs
 
 returns-3 : tie.Need-returns-3
 unfolding done view
-returns-3 c = plain-finished _ (link _ _) (c .before .before .before .before .before .before .before .before .before .before .before .before .before .before .before .before .link-number .ensures) refl (c .before .before .before .before .before .before .before .before .before .before .before .before .before .before .before .if1 .left) (c .plain3 .ensures)
-    (c .before .before .before .set-puts2 .ensures ∙ rw (c .before .before .before .before .before .before .before .set-off2 .ensures, c .before .before .before .before .before .before .before .before .without-station .ensures, c .before .before .before .before .before .before .before .before .before .before .before .before .before .«open» .ensures, c .before .before .before .before .before .before .before .before .before .before .before .off-set .ensures, ne-eqb _ _ (c .before .before .before .before .before .before .before .before .before .before .if2 .left)))
+returns-3 c =
+    plain-finished _ (link _ _) (c .before .before .before .before .before .before .before .before .before .before .before .before .before .before .before .before .link-number .ensures) refl (c .before .before .before .before .before .before .before .before .before .before .before .before .before .before .before .if1 .left) (c .plain3 .ensures)
+    (c .before .before .before .set-puts2 .ensures ∙ rw (
+      c .before .before .before .before .before .before .before .set-off2 .ensures,
+      c .before .before .before .before .before .before .before .before .without-station .ensures,
+      c .before .before .before .before .before .before .before .before .before .before .before .before .before .«open» .ensures,
+      c .before .before .before .before .before .before .before .before .before .before .before .off-set .ensures,
+      ne-eqb _ _ (c .before .before .before .before .before .before .before .before .before .before .if2 .left),
+    ))
 
 pub ospreyscreen-link-spec : {M : Type 1} → statement M
 ospreyscreen-link-spec =

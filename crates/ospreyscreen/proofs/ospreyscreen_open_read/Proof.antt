@@ -21,7 +21,8 @@ returns : tie.Need-returns
 returns c = refused _ (openRead _) (c .before .before .open-number .ensures) (c .before .if1 .taken) (c .plain .ensures)
 
 cast-set-round : tie.Need-cast-set-round
-cast-set-round c = let a = allowed (view _) (openRead _) (sym (c .before .before .open-number .ensures) ∙ c .before .if1 .left) in record { fits = item-byte _ (a .0) (a .1) }
+cast-set-round c =
+    let a = allowed (view _) (openRead _) (sym (c .before .before .open-number .ensures) ∙ c .before .if1 .left) in record { fits = item-byte _ (a .0) (a .1) }
 
 set-round-requires : tie.Need-set-round-requires
 set-round-requires c κs = passed-long _ (allowed (view _) (openRead _) (sym (c .before .before .open-number .ensures) ∙ c .before .if1 .left) .0)
@@ -34,7 +35,8 @@ same-length-2 c = search needs
 
 returns-2 : tie.Need-returns-2
 unfolding done
-returns-2 c = plain-finished _ (openRead _) (c .before .before .before .before .before .before .open-number .ensures) refl (c .before .before .before .before .before .if1 .left) (c .plain2 .ensures) (c .before .before .before .set-round .ensures)
+returns-2 c =
+    plain-finished _ (openRead _) (c .before .before .before .before .before .before .open-number .ensures) refl (c .before .before .before .before .before .if1 .left) (c .plain2 .ensures) (c .before .before .before .set-round .ensures)
 
 pub ospreyscreen-open-read-spec : {M : Type 1} → statement M
 ospreyscreen-open-read-spec =

@@ -36,13 +36,16 @@ poll-requires : tie.Need-poll-requires
 poll-requires c κs = search needs
 
 item-requires : tie.Need-item-requires
-item-requires c κs = passed-long _ (allowed (view _) (poll _) (sym (c .before .before .before .before .before .poll-number .ensures) ∙ c .before .before .before .before .if1 .left) .0)
+item-requires c κs =
+    passed-long _ (allowed (view _) (poll _) (sym (c .before .before .before .before .before .poll-number .ensures) ∙ c .before .before .before .before .if1 .left) .0)
 
 is-heard-requires : tie.Need-is-heard-requires
-is-heard-requires c κs = let s = passed-sound _ (allowed (view _) (poll _) (sym (c .before .before .before .before .before .before .poll-number .ensures) ∙ c .before .before .before .before .before .if1 .left) .0) in (s, own-item _ (sound-facts _ s) (c .item .ensures))
+is-heard-requires c κs =
+    let s = passed-sound _ (allowed (view _) (poll _) (sym (c .before .before .before .before .before .before .poll-number .ensures) ∙ c .before .before .before .before .before .if1 .left) .0) in (s, own-item _ (sound-facts _ s) (c .item .ensures))
 
 set-polled-requires : tie.Need-set-polled-requires
-set-polled-requires c κs = passed-long _ (allowed (view _) (poll _) (sym (c .before .before .before .before .before .before .before .before .poll-number .ensures) ∙ c .before .before .before .before .before .before .before .if1 .left) .0)
+set-polled-requires c κs =
+    passed-long _ (allowed (view _) (poll _) (sym (c .before .before .before .before .before .before .before .before .poll-number .ensures) ∙ c .before .before .before .before .before .before .before .if1 .left) .0)
 
 one-if-requires : tie.Need-one-if-requires
 one-if-requires c κs = search needs
@@ -52,8 +55,12 @@ same-length-2 c = search needs
 
 returns-2 : tie.Need-returns-2
 unfolding done figuresOf view
-returns-2 c = let p : c .before .before .before .before .before .before .before .before .poll .result .polled ≡ join (roundOf ((c .before .before .before .before .before .before .before .before .before .before .before .before .before .before .before .args .table) .now) .polled) (c .before .before .before .before .before .before .before .before .before .before .before .before .before .before .before .args .station) = ap (λ r. r .polled) (c .before .before .before .before .before .before .before .before .poll .ensures) ∙ ap (λ r. join (r .polled) (c .before .before .before .before .before .before .before .before .before .before .before .before .before .before .before .args .station)) (c .before .before .before .before .before .before .before .before .before .«open» .ensures) in
-    finished _ (poll _) (c .before .before .before .before .before .before .before .before .before .before .before .before .poll-number .ensures) (c .before .before .before .before .before .before .before .before .before .before .before .if1 .left) (closing-figures refl (c .one-if .ensures ∙ ap (λ b. cond b 1 0) (rw (p, c .before .before .before .before .before .before .item .ensures) at (c .before .before .before .before .before .is-heard .ensures))) refl refl) (c .before .before .before .set-polled .ensures ∙ ap (λ y. setPolled ((c .before .before .before .before .before .before .before .before .before .before .before .before .before .before .before .args .table) .now) y) p)
+returns-2 c =
+    let p : c .before .before .before .before .before .before .before .before .poll .result .polled ≡ join (roundOf ((c .before .before .before .before .before .before .before .before .before .before .before .before .before .before .before .args .table) .now) .polled) (c .before .before .before .before .before .before .before .before .before .before .before .before .before .before .before .args .station) = ap (λ r. r .polled) (c .before .before .before .before .before .before .before .before .poll .ensures) ∙ ap (λ r. join (r .polled) (c .before .before .before .before .before .before .before .before .before .before .before .before .before .before .before .args .station)) (c .before .before .before .before .before .before .before .before .before .«open» .ensures) in
+    finished _ (poll _) (c .before .before .before .before .before .before .before .before .before .before .before .before .poll-number .ensures) (c .before .before .before .before .before .before .before .before .before .before .before .if1 .left) (closing-figures refl (c .one-if .ensures ∙ ap (λ b. cond b 1 0) (rw (
+      p,
+      c .before .before .before .before .before .before .item .ensures,
+    ) at (c .before .before .before .before .before .is-heard .ensures))) refl refl) (c .before .before .before .set-polled .ensures ∙ ap (λ y. setPolled ((c .before .before .before .before .before .before .before .before .before .before .before .before .before .before .before .args .table) .now) y) p)
 
 pub ospreyscreen-poll-spec : {M : Type 1} → statement M
 ospreyscreen-poll-spec =

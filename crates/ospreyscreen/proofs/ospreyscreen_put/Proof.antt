@@ -27,7 +27,8 @@ put-requires : tie.Need-put-requires
 put-requires c κs = search needs
 
 set-puts-requires : tie.Need-set-puts-requires
-set-puts-requires c κs = passed-long _ (allowed (view _) (put _ _) (sym (c .before .before .before .before .before .put-number .ensures) ∙ c .before .before .before .before .if1 .left) .0)
+set-puts-requires c κs =
+    passed-long _ (allowed (view _) (put _ _) (sym (c .before .before .before .before .before .put-number .ensures) ∙ c .before .before .before .before .if1 .left) .0)
 
 plain-requires-2 : tie.Need-plain-requires-2
 plain-requires-2 c κs = search needs
@@ -37,7 +38,11 @@ same-length-2 c = search needs
 
 returns-2 : tie.Need-returns-2
 unfolding done view
-returns-2 c = plain-finished _ (put _ _) (c .before .before .before .before .before .before .before .before .before .put-number .ensures) refl (c .before .before .before .before .before .before .before .before .if1 .left) (c .plain2 .ensures) (c .before .before .before .set-puts .ensures ∙ rw (c .before .before .before .before .before .put .ensures, c .before .before .before .before .before .before .«open» .ensures))
+returns-2 c =
+    plain-finished _ (put _ _) (c .before .before .before .before .before .before .before .before .before .put-number .ensures) refl (c .before .before .before .before .before .before .before .before .if1 .left) (c .plain2 .ensures) (c .before .before .before .set-puts .ensures ∙ rw (
+      c .before .before .before .before .before .put .ensures,
+      c .before .before .before .before .before .before .«open» .ensures,
+    ))
 
 pub ospreyscreen-put-spec : {M : Type 1} → statement M
 ospreyscreen-put-spec =

@@ -24,14 +24,16 @@ returns c = refused _ (reach _) (c .before .before .reach-number .ensures) (c .b
 
 reach-figure-requires : tie.Need-reach-figure-requires
 unfolding view
-reach-figure-requires c κs = let a = allowed (view _) (reach _) (sym (c .before .before .reach-number .ensures) ∙ c .before .if1 .left) in (passed-sound _ (a .0), a .1)
+reach-figure-requires c κs =
+    let a = allowed (view _) (reach _) (sym (c .before .before .reach-number .ensures) ∙ c .before .if1 .left) in (passed-sound _ (a .0), a .1)
 
 same-length-2 : tie.Need-same-length-2
 same-length-2 c = search needs
 
 returns-2 : tie.Need-returns-2
 unfolding done figuresOf view
-returns-2 c = finished _ (reach _) (c .before .before .before .reach-number .ensures) (c .before .before .if1 .left) (closing-figures refl (c .reach-figure .ensures) refl refl) refl
+returns-2 c =
+    finished _ (reach _) (c .before .before .before .reach-number .ensures) (c .before .before .if1 .left) (closing-figures refl (c .reach-figure .ensures) refl refl) refl
 
 pub ospreyscreen-reach-spec : {M : Type 1} → statement M
 ospreyscreen-reach-spec =

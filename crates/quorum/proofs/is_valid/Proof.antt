@@ -30,7 +30,13 @@ lanes-ok-requires c κs = search needs
 
 returns-4 : tie.Need-returns-4
 unfolding used
-returns-4 c = rw (c .before .before .before .load-set .ensures, c .before .before .load-set2 .ensures, c .lanes-ok .ensures, c .before .all-stations .ensures)
+returns-4 c =
+    rw (
+      c .before .before .before .load-set .ensures,
+      c .before .before .load-set2 .ensures,
+      c .lanes-ok .ensures,
+      c .before .all-stations .ensures,
+    )
     (lanes-valid (c .before .before .before .before .before .before .before .before .args .n) (c .before .before .before .before .before .before .before .before .args .config .now) (pos-of-ne-zero (c .before .before .before .before .before .if2 .left)) (c .before .before .before .before .if3 .left) (c .before .before .before .before .before .before .if1 .left))
 
 pub is-valid-spec : {M : Type 1} → statement M

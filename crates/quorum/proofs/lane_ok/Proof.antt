@@ -26,7 +26,15 @@ row-ok-requires c κs = search needs
 
 returns : tie.Need-returns
 unfolding laneOk
-returns c = rw (c .before .before .before .before .load-set .ensures, c .before .before .before .load-set2 .ensures, c .before .before .gap-ok .ensures, c .before .gap-ok2 .ensures, c .row-ok .ensures, c .before .before .before .before .load-set .ensures)
+returns c =
+    rw (
+      c .before .before .before .before .load-set .ensures,
+      c .before .before .before .load-set2 .ensures,
+      c .before .before .gap-ok .ensures,
+      c .before .gap-ok2 .ensures,
+      c .row-ok .ensures,
+      c .before .before .before .before .load-set .ensures,
+    )
 
 pub lane-ok-spec : {M : Type 1} → statement M
 lane-ok-spec =

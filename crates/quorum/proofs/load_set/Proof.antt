@@ -27,7 +27,8 @@ mul-result : tie.Need-mul-result
 mul-result c = omega (arith, c .shared-slice-known2 .given (2 * c .before .before .args .place + 1))
 
 add-result-2 : tie.Need-add-result-2
-add-result-2 c = omega (arith, c .shared-slice-known2 .given (2 * c .before .before .args .place), c .shared-slice-known2 .given (2 * c .before .before .args .place + 1))
+add-result-2 c =
+    omega (arith, c .shared-slice-known2 .given (2 * c .before .before .args .place), c .shared-slice-known2 .given (2 * c .before .before .args .place + 1))
 
 returns : tie.Need-returns
 returns c = rw (set-bytes (c .before .before .args .config .now) (c .before .before .args .place) (c .before .before .pre .1))

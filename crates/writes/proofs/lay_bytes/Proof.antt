@@ -35,8 +35,11 @@ mul-lay-rest c = omega (arith, some (c .before .before .before .before .before .
 lay-rest-requires : tie.Need-lay-rest-requires
 unfolding tableLength
 lay-rest-requires c κs =
-    let q = some (c .before .before .before .before .before .before .before .before .before .before .before) in
-    (q .0, q .1, omega (arith, c .before .before .before .lay-first .kept .0, c .before .before .before .before .before .before .before .put-pair .kept .0))
+    let q = some (c .before .before .before .before .before .before .before .before .before .before .before) in (
+      q .0,
+      q .1,
+      omega (arith, c .before .before .before .lay-first .kept .0, c .before .before .before .before .before .before .before .put-pair .kept .0),
+    )
 
 same-length : tie.Need-same-length
 same-length c = search needs

@@ -22,7 +22,12 @@ returns c =
     let s = c .before .before .before .before .before .before .before .before .before .before .before in
     let a = s .args in
     let config = c .before .before .before .config-bytes-at .ensures in
-    rw (c .before .before .put-config .ensures, c .before .before .before .before .before .before .before .put-data .ensures, config, take-all 32 (a .config .now) (omega arith))
+    rw (
+      c .before .before .put-config .ensures,
+      c .before .before .before .before .before .before .before .put-data .ensures,
+      config,
+      take-all 32 (a .config .now) (omega arith),
+    )
     (whole-copy (a .t .now) 56 0 (a .value) 0 (a .config .now) (s .pre .0) (s .pre .1))
 
 pub lay-first-spec : {M : Type 1} → statement M

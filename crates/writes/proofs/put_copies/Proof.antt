@@ -50,13 +50,15 @@ counted c = c .before .before .before .before .before .before .before .before .b
 
 -- where the copy of the turn's station starts, and that it is there
 at-station : (c : tie.After-address Inv-loop μ-loop) → c .address .result ≡ roundAt (start c .args .t .now) (c .before .before .loop .s)
-at-station c = place (lent (start c)) _ (counted c .stations .ensures) (c .before .before .before .before .before .before .before .before .before .item .ensures) (c .address .ensures)
+at-station c =
+    place (lent (start c)) _ (counted c .stations .ensures) (c .before .before .before .before .before .before .before .before .before .item .ensures) (c .address .ensures)
 
 fits : (c : tie.After-address Inv-loop μ-loop) → c .address .result + copySize ≤ length (start c .args .t .now)
 fits c = copy-fits (lent (start c)) _ (counted c .stations .ensures) (at-station c) (c .before .loop-test .taken)
 
 address-requires : tie.Need-address-requires Inv-loop μ-loop
-address-requires c κs = let r = lent (c .before .before .before .before .before .before .before .before .before .before .before .before .before) in omega arith
+address-requires c κs =
+    let r = lent (c .before .before .before .before .before .before .before .before .before .before .before .before .before) in omega arith
 
 is-member-requires : tie.Need-is-member-requires Inv-loop μ-loop
 is-member-requires c κs = search needs
@@ -68,7 +70,8 @@ is-member-requires-2 : tie.Need-is-member-requires-2 Inv-loop μ-loop
 is-member-requires-2 c κs = search needs
 
 put-config-if-requires : tie.Need-put-config-if-requires Inv-loop μ-loop
-put-config-if-requires c κs = omega (arith, fits (c .before .before .before .before .before .before .before), c .before .before .before .before .put-data-if .kept .0)
+put-config-if-requires c κs =
+    omega (arith, fits (c .before .before .before .before .before .before .before), c .before .before .before .before .put-data-if .kept .0)
 
 add-s : tie.Need-add-s Inv-loop μ-loop
 add-s c = search needs

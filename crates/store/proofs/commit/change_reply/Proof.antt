@@ -21,7 +21,8 @@ plain-requires c κs = search needs
 
 returns : tie.Need-returns
 unfolding first view
-returns c = c .plain .ensures ∙ rw (last-test (c .before .before .is-last .ensures) (c .before .before .before .generation-of .ensures ∙ ap (λ y. y .generation) (generation-found _ (c .before .before .before .before .before .before .pre))) (c .before .if1 .taken))
+returns c =
+    c .plain .ensures ∙ rw (last-test (c .before .before .is-last .ensures) (c .before .before .before .generation-of .ensures ∙ ap (λ y. y .generation) (generation-found _ (c .before .before .before .before .before .before .pre))) (c .before .if1 .taken))
 
 target-requires : tie.Need-target-requires
 target-requires c κs = round-long _ (c .before .before .before .before .before .pre)
@@ -37,7 +38,11 @@ plain-requires-2 c κs = search needs
 
 returns-2 : tie.Need-returns-2
 unfolding first view
-returns-2 c = c .plain2 .ensures ∙ rw (last-test (c .before .before .before .before .before .before .is-last .ensures) (c .before .before .before .before .before .before .before .generation-of .ensures ∙ ap (λ y. y .generation) (generation-found _ (c .before .before .before .before .before .before .before .before .before .before .pre))) (c .before .before .before .before .before .if1 .left), write-fails (c .before .before .holds-write-set .ensures) (c .before .before .before .before .target .ensures) (c .before .before .before .data-puts .ensures) (c .before .if2 .taken))
+returns-2 c =
+    c .plain2 .ensures ∙ rw (
+      last-test (c .before .before .before .before .before .before .is-last .ensures) (c .before .before .before .before .before .before .before .generation-of .ensures ∙ ap (λ y. y .generation) (generation-found _ (c .before .before .before .before .before .before .before .before .before .before .pre))) (c .before .before .before .before .before .if1 .left),
+      write-fails (c .before .before .holds-write-set .ensures) (c .before .before .before .before .target .ensures) (c .before .before .before .data-puts .ensures) (c .before .if2 .taken),
+    )
 
 config-of-requires : tie.Need-config-of-requires
 config-of-requires c κs = generation-within _ (c .before .before .before .before .before .before .before .before .before .pre)
@@ -53,17 +58,29 @@ plain-requires-3 c κs = search needs
 
 returns-3 : tie.Need-returns-3
 unfolding first view
-returns-3 c = c .plain3 .ensures ∙ rw (last-test (c .before .before .before .before .before .before .before .before .before .before .is-last .ensures) (c .before .before .before .before .before .before .before .before .before .before .before .generation-of .ensures ∙ ap (λ y. y .generation) (generation-found _ (c .before .before .before .before .before .before .before .before .before .before .before .before .before .before .pre))) (c .before .before .before .before .before .before .before .before .before .if1 .left), write-holds (c .before .before .before .before .before .before .holds-write-set .ensures) (c .before .before .before .before .before .before .before .before .target .ensures) (c .before .before .before .before .before .before .before .data-puts .ensures) (c .before .before .before .before .before .if2 .left), write-fails (c .before .before .holds-write-set2 .ensures) (c .before .before .before .before .config-of .ensures ∙ ap (λ y. y .config) (generation-found _ (c .before .before .before .before .before .before .before .before .before .before .before .before .before .before .pre))) (c .before .before .before .config-puts .ensures) (c .before .if3 .taken))
+returns-3 c =
+    c .plain3 .ensures ∙ rw (
+      last-test (c .before .before .before .before .before .before .before .before .before .before .is-last .ensures) (c .before .before .before .before .before .before .before .before .before .before .before .generation-of .ensures ∙ ap (λ y. y .generation) (generation-found _ (c .before .before .before .before .before .before .before .before .before .before .before .before .before .before .pre))) (c .before .before .before .before .before .before .before .before .before .if1 .left),
+      write-holds (c .before .before .before .before .before .before .holds-write-set .ensures) (c .before .before .before .before .before .before .before .before .target .ensures) (c .before .before .before .before .before .before .before .data-puts .ensures) (c .before .before .before .before .before .if2 .left),
+      write-fails (c .before .before .holds-write-set2 .ensures) (c .before .before .before .before .config-of .ensures ∙ ap (λ y. y .config) (generation-found _ (c .before .before .before .before .before .before .before .before .before .before .before .before .before .before .pre))) (c .before .before .before .config-puts .ensures) (c .before .if3 .taken),
+    )
 
 value-of-requires : tie.Need-value-of-requires
-value-of-requires c κs = version-within _ (c .before .before .before .before .before .before .before .before .before .before .before .before .before .pre)
+value-of-requires c κs =
+    version-within _ (c .before .before .before .before .before .before .before .before .before .before .before .before .before .pre)
 
 next-requires : tie.Need-next-requires
-next-requires c κs = not-last (c .before .before .before .before .before .before .before .before .before .before .before .generation-of .result .0) (search needs) (c .before .before .before .before .before .before .before .before .before .before .is-last .ensures) (c .before .before .before .before .before .before .before .before .before .if1 .left)
+next-requires c κs =
+    not-last (c .before .before .before .before .before .before .before .before .before .before .before .generation-of .result .0) (search needs) (c .before .before .before .before .before .before .before .before .before .before .is-last .ensures) (c .before .before .before .before .before .before .before .before .before .if1 .left)
 
 returns-4 : tie.Need-returns-4
 unfolding first view
-returns-4 c = rw (last-test (c .before .before .before .before .before .before .before .before .before .before .before .is-last .ensures) (c .before .before .before .before .before .before .before .before .before .before .before .before .generation-of .ensures ∙ ap (λ y. y .generation) (generation-found _ (c .before .before .before .before .before .before .before .before .before .before .before .before .before .before .before .pre))) (c .before .before .before .before .before .before .before .before .before .before .if1 .left), write-holds (c .before .before .before .before .before .before .before .holds-write-set .ensures) (c .before .before .before .before .before .before .before .before .before .target .ensures) (c .before .before .before .before .before .before .before .before .data-puts .ensures) (c .before .before .before .before .before .before .if2 .left), write-holds (c .before .before .before .holds-write-set2 .ensures) (c .before .before .before .before .before .config-of .ensures ∙ ap (λ y. y .config) (generation-found _ (c .before .before .before .before .before .before .before .before .before .before .before .before .before .before .before .pre))) (c .before .before .before .before .config-puts .ensures) (c .before .before .if3 .left)) (closing-figures refl (c .before .value-of .ensures ∙ ap (λ y. y .value) (version-found _ (c .before .before .before .before .before .before .before .before .before .before .before .before .before .before .before .pre))) (c .before .before .before .before .before .before .before .before .before .before .before .before .before .version-of .ensures ∙ ap (λ y. y .version) (version-found _ (c .before .before .before .before .before .before .before .before .before .before .before .before .before .before .before .pre))) (c .next .ensures ∙ ap (λ y. y + 1) (c .before .before .before .before .before .before .before .before .before .before .before .before .generation-of .ensures ∙ ap (λ y. y .generation) (generation-found _ (c .before .before .before .before .before .before .before .before .before .before .before .before .before .before .before .pre)))))
+returns-4 c =
+    rw (
+      last-test (c .before .before .before .before .before .before .before .before .before .before .before .is-last .ensures) (c .before .before .before .before .before .before .before .before .before .before .before .before .generation-of .ensures ∙ ap (λ y. y .generation) (generation-found _ (c .before .before .before .before .before .before .before .before .before .before .before .before .before .before .before .pre))) (c .before .before .before .before .before .before .before .before .before .before .if1 .left),
+      write-holds (c .before .before .before .before .before .before .before .holds-write-set .ensures) (c .before .before .before .before .before .before .before .before .before .target .ensures) (c .before .before .before .before .before .before .before .before .data-puts .ensures) (c .before .before .before .before .before .before .if2 .left),
+      write-holds (c .before .before .before .holds-write-set2 .ensures) (c .before .before .before .before .before .config-of .ensures ∙ ap (λ y. y .config) (generation-found _ (c .before .before .before .before .before .before .before .before .before .before .before .before .before .before .before .pre))) (c .before .before .before .before .config-puts .ensures) (c .before .before .if3 .left),
+    ) (closing-figures refl (c .before .value-of .ensures ∙ ap (λ y. y .value) (version-found _ (c .before .before .before .before .before .before .before .before .before .before .before .before .before .before .before .pre))) (c .before .before .before .before .before .before .before .before .before .before .before .before .before .version-of .ensures ∙ ap (λ y. y .version) (version-found _ (c .before .before .before .before .before .before .before .before .before .before .before .before .before .before .before .pre))) (c .next .ensures ∙ ap (λ y. y + 1) (c .before .before .before .before .before .before .before .before .before .before .before .before .generation-of .ensures ∙ ap (λ y. y .generation) (generation-found _ (c .before .before .before .before .before .before .before .before .before .before .before .before .before .before .before .pre)))))
 
 pub change-reply-spec : {M : Type 1} → statement M
 change-reply-spec =

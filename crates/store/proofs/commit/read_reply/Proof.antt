@@ -16,7 +16,8 @@ generation-of-requires c κs = generation-within _ (c .before .before .before .p
 
 returns : tie.Need-returns
 unfolding first
-returns c = closing-figures refl (c .before .before .value-of .ensures ∙ ap (λ y. y .value) (version-found _ (c .before .before .before .before .pre))) (c .before .version-of .ensures ∙ ap (λ y. y .version) (version-found _ (c .before .before .before .before .pre))) (c .generation-of .ensures ∙ ap (λ y. y .generation) (generation-found _ (c .before .before .before .before .pre)))
+returns c =
+    closing-figures refl (c .before .before .value-of .ensures ∙ ap (λ y. y .value) (version-found _ (c .before .before .before .before .pre))) (c .before .version-of .ensures ∙ ap (λ y. y .version) (version-found _ (c .before .before .before .before .pre))) (c .generation-of .ensures ∙ ap (λ y. y .generation) (generation-found _ (c .before .before .before .before .pre)))
 
 pub read-reply-spec : {M : Type 1} → statement M
 read-reply-spec =

@@ -17,11 +17,19 @@ kind-requires c κs = long _ (facts (c .before .is-sound .ensures) (c .if1 .left
 
 returns-2 : tie.Need-returns-2
 unfolding numberOf refusals first view
-returns-2 c = rw (holds (c .before .before .before .is-sound .ensures) (c .before .before .if1 .left), is-idle (c .before .kind .ensures) (c .if2 .taken))
+returns-2 c =
+    rw (
+      holds (c .before .before .before .is-sound .ensures) (c .before .before .if1 .left),
+      is-idle (c .before .kind .ensures) (c .if2 .taken),
+    )
 
 returns-3 : tie.Need-returns-3
 unfolding numberOf refusals first view
-returns-3 c = rw (holds (c .before .before .before .is-sound .ensures) (c .before .before .if1 .left), is-open (c .before .kind .ensures) (c .if2 .left))
+returns-3 c =
+    rw (
+      holds (c .before .before .before .is-sound .ensures) (c .before .before .if1 .left),
+      is-open (c .before .kind .ensures) (c .if2 .left),
+    )
 
 pub abandon-number-spec : {M : Type 1} → statement M
 abandon-number-spec =

@@ -13,7 +13,11 @@ config-puts-requires c κs = search needs
 
 returns : tie.Need-returns
 unfolding view
-returns c = rw (c .before .data-puts .ensures, c .config-puts .ensures) (either-put (roundOf ((c .before .before .before .args .t) .now) .dataPuts) (roundOf ((c .before .before .before .args .t) .now) .configPuts))
+returns c =
+    rw (
+      c .before .data-puts .ensures,
+      c .config-puts .ensures,
+    ) (either-put (roundOf ((c .before .before .before .args .t) .now) .dataPuts) (roundOf ((c .before .before .before .args .t) .now) .configPuts))
 
 pub has-puts-spec : {M : Type 1} → statement M
 has-puts-spec = tie.close (tie.spec data-puts-requires config-puts-requires returns)

@@ -22,7 +22,13 @@ returns-3 c = rw (le-leb 1 _ (c .before .before .if1 .left), le-leb _ 16 (c .bef
 
 returns-4 : tie.Need-returns-4
 unfolding first tableLength
-returns-4 c = rw (le-leb 1 _ (c .before .before .before .if1 .left), le-leb _ 16 (c .before .before .if2 .left), le-leb 1 _ (c .before .if3 .left), lt-leb _ 32 (c .if4 .taken))
+returns-4 c =
+    rw (
+      le-leb 1 _ (c .before .before .before .if1 .left),
+      le-leb _ 16 (c .before .before .if2 .left),
+      le-leb 1 _ (c .before .if3 .left),
+      lt-leb _ 32 (c .if4 .taken),
+    )
 
 mul-if5 : tie.Need-mul-if5
 mul-if5 c = omega (arith, mul-le-mul (c .before .before .if2 .left) (c .if4 .left))
@@ -35,18 +41,41 @@ add-if5 c = omega (arith, mul-le-mul (c .before .before .if2 .left) (c .if4 .lef
 
 returns-5 : tie.Need-returns-5
 unfolding first tableLength
-returns-5 c = rw (le-leb 1 _ (c .before .before .before .before .if1 .left), le-leb _ 16 (c .before .before .before .if2 .left), le-leb 1 _ (c .before .before .if3 .left), le-leb _ 32 (c .before .if4 .left), ne-eqb _ _ (c .if5 .taken))
+returns-5 c =
+    rw (
+      le-leb 1 _ (c .before .before .before .before .if1 .left),
+      le-leb _ 16 (c .before .before .before .if2 .left),
+      le-leb 1 _ (c .before .before .if3 .left),
+      le-leb _ 32 (c .before .if4 .left),
+      ne-eqb _ _ (c .if5 .taken),
+    )
 
 is-valid-requires : tie.Need-is-valid-requires
 is-valid-requires c κs = search needs
 
 returns-6 : tie.Need-returns-6
 unfolding first tableLength
-returns-6 c = rw (le-leb 1 _ (c .before .before .before .before .before .before .if1 .left), le-leb _ 16 (c .before .before .before .before .before .if2 .left), le-leb 1 _ (c .before .before .before .before .if3 .left), le-leb _ 32 (c .before .before .before .if4 .left), eq-eqb _ _ (c .before .before .if5 .left), fails (c .before .is-valid .ensures) (c .if6 .taken))
+returns-6 c =
+    rw (
+      le-leb 1 _ (c .before .before .before .before .before .before .if1 .left),
+      le-leb _ 16 (c .before .before .before .before .before .if2 .left),
+      le-leb 1 _ (c .before .before .before .before .if3 .left),
+      le-leb _ 32 (c .before .before .before .if4 .left),
+      eq-eqb _ _ (c .before .before .if5 .left),
+      fails (c .before .is-valid .ensures) (c .if6 .taken),
+    )
 
 returns-7 : tie.Need-returns-7
 unfolding first tableLength
-returns-7 c = rw (le-leb 1 _ (c .before .before .before .before .before .before .if1 .left), le-leb _ 16 (c .before .before .before .before .before .if2 .left), le-leb 1 _ (c .before .before .before .before .if3 .left), le-leb _ 32 (c .before .before .before .if4 .left), eq-eqb _ _ (c .before .before .if5 .left), holds (c .before .is-valid .ensures) (c .if6 .left))
+returns-7 c =
+    rw (
+      le-leb 1 _ (c .before .before .before .before .before .before .if1 .left),
+      le-leb _ 16 (c .before .before .before .before .before .if2 .left),
+      le-leb 1 _ (c .before .before .before .before .if3 .left),
+      le-leb _ 32 (c .before .before .before .if4 .left),
+      eq-eqb _ _ (c .before .before .if5 .left),
+      holds (c .before .is-valid .ensures) (c .if6 .left),
+    )
 
 pub lay-number-spec : {M : Type 1} → statement M
 lay-number-spec =

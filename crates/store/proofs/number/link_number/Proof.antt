@@ -17,18 +17,32 @@ stations-requires c κs = long _ (facts (c .before .is-sound .ensures) (c .if1 .
 
 returns-2 : tie.Need-returns-2
 unfolding numberOf refusals first view
-returns-2 c = rw (holds (c .before .before .before .is-sound .ensures) (c .before .before .if1 .left), not-below (c .before .stations .ensures) (c .if2 .taken))
+returns-2 c =
+    rw (
+      holds (c .before .before .before .is-sound .ensures) (c .before .before .if1 .left),
+      not-below (c .before .stations .ensures) (c .if2 .taken),
+    )
 
 is-either-requires : tie.Need-is-either-requires
 is-either-requires c κs = search needs
 
 returns-3 : tie.Need-returns-3
 unfolding numberOf refusals first view
-returns-3 c = rw (holds (c .before .before .before .before .before .is-sound .ensures) (c .before .before .before .before .if1 .left), is-below (c .before .before .before .stations .ensures) (c .before .before .if2 .left), fails (c .before .is-either .ensures) (c .if3 .taken))
+returns-3 c =
+    rw (
+      holds (c .before .before .before .before .before .is-sound .ensures) (c .before .before .before .before .if1 .left),
+      is-below (c .before .before .before .stations .ensures) (c .before .before .if2 .left),
+      fails (c .before .is-either .ensures) (c .if3 .taken),
+    )
 
 returns-4 : tie.Need-returns-4
 unfolding numberOf refusals first view
-returns-4 c = rw (holds (c .before .before .before .before .before .is-sound .ensures) (c .before .before .before .before .if1 .left), is-below (c .before .before .before .stations .ensures) (c .before .before .if2 .left), holds (c .before .is-either .ensures) (c .if3 .left))
+returns-4 c =
+    rw (
+      holds (c .before .before .before .before .before .is-sound .ensures) (c .before .before .before .before .if1 .left),
+      is-below (c .before .before .before .stations .ensures) (c .before .before .if2 .left),
+      holds (c .before .is-either .ensures) (c .if3 .left),
+    )
 
 pub link-number-spec : {M : Type 1} → statement M
 link-number-spec =

@@ -18,7 +18,11 @@ items-requires c κs = long _ (facts (c .before .is-sound .ensures) (c .if1 .lef
 
 returns-2 : tie.Need-returns-2
 unfolding numberOf refusals first view
-returns-2 c = rw (holds (c .before .before .before .is-sound .ensures) (c .before .before .if1 .left), not-below (c .before .items .ensures) (c .if2 .taken))
+returns-2 c =
+    rw (
+      holds (c .before .before .before .is-sound .ensures) (c .before .before .if1 .left),
+      not-below (c .before .items .ensures) (c .if2 .taken),
+    )
 
 stations-requires : tie.Need-stations-requires
 stations-requires c κs = long _ (facts (c .before .before .before .is-sound .ensures) (c .before .before .if1 .left))
@@ -28,18 +32,36 @@ is-valid-requires c κs = search needs
 
 returns-3 : tie.Need-returns-3
 unfolding numberOf refusals first view
-returns-3 c = rw (holds (c .before .before .before .before .before .before .is-sound .ensures) (c .before .before .before .before .before .if1 .left), is-below (c .before .before .before .before .items .ensures) (c .before .before .before .if2 .left), valid-test _ (c .before .before .stations .ensures) (c .before .is-valid .ensures) (c .if3 .taken))
+returns-3 c =
+    rw (
+      holds (c .before .before .before .before .before .before .is-sound .ensures) (c .before .before .before .before .before .if1 .left),
+      is-below (c .before .before .before .before .items .ensures) (c .before .before .before .if2 .left),
+      valid-test _ (c .before .before .stations .ensures) (c .before .is-valid .ensures) (c .if3 .taken),
+    )
 
 kind-requires : tie.Need-kind-requires
-kind-requires c κs = long _ (facts (c .before .before .before .before .before .before .is-sound .ensures) (c .before .before .before .before .before .if1 .left))
+kind-requires c κs =
+    long _ (facts (c .before .before .before .before .before .before .is-sound .ensures) (c .before .before .before .before .before .if1 .left))
 
 returns-4 : tie.Need-returns-4
 unfolding numberOf refusals first view
-returns-4 c = rw (holds (c .before .before .before .before .before .before .before .before .is-sound .ensures) (c .before .before .before .before .before .before .before .if1 .left), is-below (c .before .before .before .before .before .before .items .ensures) (c .before .before .before .before .before .if2 .left), valid-test _ (c .before .before .before .before .stations .ensures) (c .before .before .before .is-valid .ensures) (c .before .before .if3 .left), is-open (c .before .kind .ensures) (c .if4 .taken))
+returns-4 c =
+    rw (
+      holds (c .before .before .before .before .before .before .before .before .is-sound .ensures) (c .before .before .before .before .before .before .before .if1 .left),
+      is-below (c .before .before .before .before .before .before .items .ensures) (c .before .before .before .before .before .if2 .left),
+      valid-test _ (c .before .before .before .before .stations .ensures) (c .before .before .before .is-valid .ensures) (c .before .before .if3 .left),
+      is-open (c .before .kind .ensures) (c .if4 .taken),
+    )
 
 returns-5 : tie.Need-returns-5
 unfolding numberOf refusals first view
-returns-5 c = rw (holds (c .before .before .before .before .before .before .before .before .is-sound .ensures) (c .before .before .before .before .before .before .before .if1 .left), is-below (c .before .before .before .before .before .before .items .ensures) (c .before .before .before .before .before .if2 .left), valid-test _ (c .before .before .before .before .stations .ensures) (c .before .before .before .is-valid .ensures) (c .before .before .if3 .left), is-idle (c .before .kind .ensures) (c .if4 .left))
+returns-5 c =
+    rw (
+      holds (c .before .before .before .before .before .before .before .before .is-sound .ensures) (c .before .before .before .before .before .before .before .if1 .left),
+      is-below (c .before .before .before .before .before .before .items .ensures) (c .before .before .before .before .before .if2 .left),
+      valid-test _ (c .before .before .before .before .stations .ensures) (c .before .before .before .is-valid .ensures) (c .before .before .if3 .left),
+      is-idle (c .before .kind .ensures) (c .if4 .left),
+    )
 
 pub open-change-number-spec : {M : Type 1} → statement M
 open-change-number-spec =

@@ -18,18 +18,32 @@ items-requires c κs = long _ (facts (c .before .is-sound .ensures) (c .if1 .lef
 
 returns-2 : tie.Need-returns-2
 unfolding numberOf refusals first view
-returns-2 c = rw (holds (c .before .before .before .is-sound .ensures) (c .before .before .if1 .left), not-below (c .before .items .ensures) (c .if2 .taken))
+returns-2 c =
+    rw (
+      holds (c .before .before .before .is-sound .ensures) (c .before .before .if1 .left),
+      not-below (c .before .items .ensures) (c .if2 .taken),
+    )
 
 kind-requires : tie.Need-kind-requires
 kind-requires c κs = long _ (facts (c .before .before .before .is-sound .ensures) (c .before .before .if1 .left))
 
 returns-3 : tie.Need-returns-3
 unfolding numberOf refusals first view
-returns-3 c = rw (holds (c .before .before .before .before .before .is-sound .ensures) (c .before .before .before .before .if1 .left), is-below (c .before .before .before .items .ensures) (c .before .before .if2 .left), is-open (c .before .kind .ensures) (c .if3 .taken))
+returns-3 c =
+    rw (
+      holds (c .before .before .before .before .before .is-sound .ensures) (c .before .before .before .before .if1 .left),
+      is-below (c .before .before .before .items .ensures) (c .before .before .if2 .left),
+      is-open (c .before .kind .ensures) (c .if3 .taken),
+    )
 
 returns-4 : tie.Need-returns-4
 unfolding numberOf refusals first view
-returns-4 c = rw (holds (c .before .before .before .before .before .is-sound .ensures) (c .before .before .before .before .if1 .left), is-below (c .before .before .before .items .ensures) (c .before .before .if2 .left), is-idle (c .before .kind .ensures) (c .if3 .left))
+returns-4 c =
+    rw (
+      holds (c .before .before .before .before .before .is-sound .ensures) (c .before .before .before .before .if1 .left),
+      is-below (c .before .before .before .items .ensures) (c .before .before .if2 .left),
+      is-idle (c .before .kind .ensures) (c .if3 .left),
+    )
 
 pub open-number-spec : {M : Type 1} → statement M
 open-number-spec =

@@ -17,11 +17,19 @@ items-requires c κs = long _ (facts (c .before .is-sound .ensures) (c .if1 .lef
 
 returns-2 : tie.Need-returns-2
 unfolding numberOf refusals first view
-returns-2 c = rw (holds (c .before .before .before .is-sound .ensures) (c .before .before .if1 .left), not-below (c .before .items .ensures) (c .if2 .taken))
+returns-2 c =
+    rw (
+      holds (c .before .before .before .is-sound .ensures) (c .before .before .if1 .left),
+      not-below (c .before .items .ensures) (c .if2 .taken),
+    )
 
 returns-3 : tie.Need-returns-3
 unfolding numberOf refusals first view
-returns-3 c = rw (holds (c .before .before .before .is-sound .ensures) (c .before .before .if1 .left), is-below (c .before .items .ensures) (c .if2 .left))
+returns-3 c =
+    rw (
+      holds (c .before .before .before .is-sound .ensures) (c .before .before .if1 .left),
+      is-below (c .before .items .ensures) (c .if2 .left),
+    )
 
 pub reach-number-spec : {M : Type 1} → statement M
 reach-number-spec =
