@@ -1,0 +1,33 @@
+-- The claims of specs/Claims.antt.
+use mathlib.Core.Path.{refl}
+use Rattle.frames.specs.Lines.{linesOf}
+use Rattle.frames.specs.Claims.{Claims}
+use Rattle.frames.proofs.Digits
+use Rattle.frames.proofs.Framed
+use Rattle.frames.proofs.Framing
+use Rattle.frames.proofs.ReplyLine
+use Rattle.frames.proofs.Laying
+use Rattle.frames.proofs.Book
+use Rattle.frames.proofs.Pieces
+
+pub claims : Claims
+unfolding linesOf
+claims =
+    record {
+      read-back = Digits.read-back;
+      shown-again = Digits.shown-again;
+      no-lines = refl;
+      ended-line = Pieces.ended-line;
+      last-line = Pieces.last-line;
+      passable = Framed.passable;
+      has-frame = Framing.has-frame;
+      reply-length = ReplyLine.reply-length;
+      reply-read-back = ReplyLine.reply-read-back;
+      lay-looks-at-the-length = Laying.lay-looks-at-the-length;
+      lay-out-of-range = Laying.lay-out-of-range;
+      lay-reads-no-byte = Laying.lay-reads-no-byte;
+      cut-line = λ t line. (Pieces.printed-clip t line, Pieces.table-clip t line);
+      in-pieces = Pieces.in-pieces;
+      shows-the-book = λ demand3 input. Book.shows-the-book demand3 (linesOf input);
+      list-of-demand-3 = Book.list-of-demand-3;
+    }

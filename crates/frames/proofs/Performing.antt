@@ -1,0 +1,157 @@
+-- A call on the table in its buffer.
+use mathlib.Core.Path.{_≡_, refl, sym, ap, _∙_}
+use mathlib.Core.Bool.{Bool, true, false, _&&_}
+use mathlib.Core.List.{List, _++_}
+use mathlib.Core.Option.{Option, none, some}
+use Prim.Native.Nat.{ℕ, zero, suc, _+_, _*_, _≤_}
+use native.Mathlib.Omega.{arith}
+use native.Mathlib.Nat.{mul-le-mul}
+use lib.Dec.{leb}
+use lib.ListN.{length, take, drop, length-replicate, take-append-drop}
+use lib.Seq.{take-at, drop-at, length-take-le}
+use borrow.Author.Tests.{le-leb, leb-true, not-false}
+use Rattle.quorum.proofs.Tests.{by-cases, and-left, and-right}
+use Rattle.layout.specs.Layout.{tableLength}
+use Rattle.rules.specs.Calls.{Call, lay}
+use Rattle.rules.specs.Rules.{noSize}
+use Rattle.rules.specs.After.{done}
+use Rattle.rules.specs.Reply.{reply, after}
+use Rattle.rules.specs.declared.Reply.{Reply}
+use Rattle.frames.specs.Frame.{callsOf}
+use Rattle.frames.specs.Session.{lent, replyOr, tableOr}
+use Rattle.frames.specs.Calls.{isLay}
+use Rattle.frames.specs.Performing.{largest, callAt, layLength, Holds}
+use Rattle.frames.proofs.Laying.{done-after, lay-looks-at-the-length, lay-out-of-range}
+use Rattle.frames.proofs.Book.{lent-same, refused-after, replaced, kept, went-on}
+
+-- ---- the sizes of a table
+-- in range, or out of it at one end
+pub in-range : (n m : ℕ) → 1 ≤ n → n ≤ 16 → 1 ≤ m → m ≤ 32 → noSize n m ≡ false
+in-range n m a b c d = rw (le-leb 1 n a, le-leb n 16 b, le-leb 1 m c, le-leb m 32 d)
+
+-- the four tests of a size, as facts
+pub record Sized (n m : ℕ) : Type 0 where
+  pub n-low : 1 ≤ n
+  pub n-high : n ≤ 16
+  pub m-low : 1 ≤ m
+  pub m-high : m ≤ 32
+
+pub sized : (n m : ℕ) → noSize n m ≡ false → Sized n m
+sized n m e =
+    let t = not-false _ e in
+    let abc = and-left (leb 1 n && leb n 16 && leb 1 m) (leb m 32) t in
+    let ab = and-left (leb 1 n && leb n 16) (leb 1 m) abc in
+    record {
+      n-low = leb-true 1 n (and-left (leb 1 n) (leb n 16) ab);
+      n-high = leb-true n 16 (and-right (leb 1 n) (leb n 16) ab);
+      m-low = leb-true 1 m (and-right (leb 1 n && leb n 16) (leb 1 m) abc);
+      m-high = leb-true m 32 (and-right (leb 1 n && leb n 16 && leb 1 m) (leb m 32) t);
+    }
+
+pub out-of-range : (n m : ℕ) → (Sized n m → ⊥) → noSize n m ≡ true
+out-of-range n m f = by-cases (λ (b : Bool). b ≡ true) (noSize n m) (λ e. refl) (λ e. absurd (f (sized n m e)))
+
+pub lay-length-out : (n m : ℕ) → noSize n m ≡ true → layLength n m ≡ 0
+unfolding layLength
+lay-length-out n m e = rw e
+
+lay-length-is : (n m : ℕ) → noSize n m ≡ false → layLength n m ≡ tableLength n m
+unfolding layLength
+lay-length-is n m e = rw e
+
+pub lay-length-in : (n m : ℕ) → Sized n m → layLength n m ≡ 56 + 56 * (n * m)
+unfolding layLength tableLength
+lay-length-in n m s = rw (in-range n m (s .n-low) (s .n-high) (s .m-low) (s .m-high))
+
+-- in range or not
+by-size : {A : Type 0} (n m : ℕ) → (noSize n m ≡ true → A) → (noSize n m ≡ false → A) → A
+by-size {A} n m f g = by-cases (λ (b : Bool). noSize n m ≡ b → A) (noSize n m) (λ _ e. f e) (λ _ e. g e) refl
+
+pub product-le : (n m : ℕ) → n ≤ 16 → m ≤ 32 → n * m ≤ 512
+product-le n m a b = mul-le-mul a b
+
+pub lay-length-le : (n m : ℕ) → layLength n m ≤ largest
+lay-length-le n m =
+    by-size n m (λ e. rw (lay-length-out n m e) (omega arith))
+    (λ e. let s = sized n m e in rw (lay-length-in n m s) (omega (arith, product-le n m (s .n-high) (s .m-high))))
+
+-- ---- a code that is none of the ten
+abbrev pub NoneOf : ℕ → ℕ → Type 0
+NoneOf code zero = Unit {0}
+NoneOf code (suc k) = NoneOf code k × (code ≡ suc k → ⊥)
+
+pub other-code : (code : ℕ) (bytes : List ℕ) → NoneOf code 10 → callAt code bytes ≡ none
+unfolding callsOf
+other-code zero bytes n = refl
+other-code (suc zero) bytes n = absurd (n .0 .0 .0 .0 .0 .0 .0 .0 .0 .1 refl)
+other-code (suc (suc zero)) bytes n = absurd (n .0 .0 .0 .0 .0 .0 .0 .0 .1 refl)
+other-code (suc (suc (suc zero))) bytes n = absurd (n .0 .0 .0 .0 .0 .0 .0 .1 refl)
+other-code (suc (suc (suc (suc zero)))) bytes n = absurd (n .0 .0 .0 .0 .0 .0 .1 refl)
+other-code (suc (suc (suc (suc (suc zero))))) bytes n = absurd (n .0 .0 .0 .0 .0 .1 refl)
+other-code (suc (suc (suc (suc (suc (suc zero)))))) bytes n = absurd (n .0 .0 .0 .0 .1 refl)
+other-code (suc (suc (suc (suc (suc (suc (suc zero))))))) bytes n = absurd (n .0 .0 .0 .1 refl)
+other-code (suc (suc (suc (suc (suc (suc (suc (suc zero)))))))) bytes n = absurd (n .0 .0 .1 refl)
+other-code (suc (suc (suc (suc (suc (suc (suc (suc (suc zero))))))))) bytes n = absurd (n .0 .1 refl)
+other-code (suc (suc (suc (suc (suc (suc (suc (suc (suc (suc zero)))))))))) bytes n = absurd (n .1 refl)
+other-code (suc (suc (suc (suc (suc (suc (suc (suc (suc (suc (suc k))))))))))) bytes n = refl
+
+-- ---- what was lent comes back into the buffer
+module _ (old : List ℕ) (whole : length old ≡ largest) where
+  held : (k : ℕ) (last : List ℕ) → k ≤ largest → length last ≡ length (take k old) → Holds old (last ++ drop k old) k last
+  held k last l e =
+      let n : length last ≡ k = e ∙ length-take-le k old (omega arith) in
+      record { room = l; table = take-at last (drop k old) k n; beyond = drop-at last (drop k old) k n }
+
+  -- a call that is no lay goes on from the table in use
+  pub performed : (used : ℕ) (o : Option Call) (c : Call) (r : Reply) (last : List ℕ) → o ≡ some c → isLay c ≡ false → used ≤ largest
+      → r ≡ reply (take used old) c → last ≡ after (take used old) c → length last ≡ length (take used old)
+      → (r ≡ replyOr (take used old) o) × Holds old (last ++ drop used old) used (tableOr (take used old) o)
+  performed used o c r last e n l p q k =
+      let h = held used last l k in
+      rw e (
+        rw (lent-same (take used old) c n) p,
+        record { room = h .room; table = h .table ∙ q ∙ sym (went-on (take used old) c n); beyond = h .beyond },
+      )
+
+  -- ---- lay: the bytes lent are of the length that the definition lends
+  module _ (used n m value : ℕ) (config : List ℕ) where
+    lay-same : reply (take (layLength n m) old) (lay n m value config)
+        ≡ reply (lent (take used old) (lay n m value config)) (lay n m value config)
+    unfolding lent
+    lay-same =
+        by-size n m (λ e. lay-out-of-range _ _ n m value config e)
+        (λ e.
+        let k : length (take (layLength n m) old) ≡ layLength n m = length-take-le (layLength n m) old (omega (arith, lay-length-le n m)) in
+        lay-looks-at-the-length _ _ n m value config (k ∙ lay-length-is n m e ∙ sym (length-replicate (tableLength n m) 0)))
+
+    module _ (o : Option Call) (r : Reply) (last : List ℕ) (need : ℕ) (d : need ≡ layLength n m) (e : o ≡ some (lay n m value config))
+        (p : r ≡ reply (take need old) (lay n m value config)) (q : last ≡ after (take need old) (lay n m value config)) where
+      same-reply : reply (take need old) (lay n m value config)
+          ≡ reply (lent (take used old) (lay n m value config)) (lay n m value config)
+      same-reply = rw d lay-same
+
+      its-reply : r ≡ replyOr (take used old) o
+      its-reply = rw e (p ∙ same-reply)
+
+      pub laid : r .number ≡ 0 → length last ≡ length (take need old)
+          → (r ≡ replyOr (take used old) o) × Holds old (last ++ drop need old) need (tableOr (take used old) o)
+      unfolding done
+      laid z k =
+          let c = lay n m value config in
+          let fits : need ≤ largest = rw d (lay-length-le n m) in
+          let h = held need last fits k in
+          let y : reply (take need old) c .number ≡ 0 = rw p at z in
+          let x : reply (lent (take used old) c) c .number ≡ 0 = rw same-reply at y in
+          let now : last ≡ tableOr (take used old) (some c) =
+          q ∙ done-after (take need old) c y ∙ sym (done-after (lent (take used old) c) c x) ∙ sym (replaced (take used old) c x)
+          in
+          (its-reply, record { room = h .room; table = h .table ∙ rw e now; beyond = h .beyond })
+
+      pub not-laid : (r .number ≡ 0 → ⊥) → used ≤ largest
+          → (r ≡ replyOr (take used old) o) × Holds old (last ++ drop need old) used (tableOr (take used old) o)
+      not-laid z l =
+          let c = lay n m value config in
+          let y : reply (take need old) c .number ≡ 0 → ⊥ = rw p at z in
+          let x : reply (lent (take used old) c) c .number ≡ 0 → ⊥ = rw same-reply at y in
+          let same : last ++ drop need old ≡ old = ap (λ u. u ++ drop need old) (q ∙ refused-after (take need old) c y) ∙ take-append-drop need old in
+          (its-reply, rw same (record { room = l; table = rw e (sym (kept (take used old) c x)); beyond = refl }))

@@ -1,0 +1,34 @@
+use mathlib.Core.Path.{sym}
+use native.Mathlib.Omega.{arith}
+use Rattle.frames.proofs.Performing.{out-of-range, lay-length-out, lay-length-in, product-le}
+use Rattle.frames.proofs.session.lay_length.Statement.{statement}
+use Rattle.frames.proofs.session.lay_length.Tie as tie
+
+returns : tie.Need-returns
+returns c = let a = c .before .args in sym (lay-length-out (a .n) (a .m) (out-of-range (a .n) (a .m) (λ s. omega (arith, s .n-low))))
+
+returns-2 : tie.Need-returns-2
+returns-2 c = let a = c .before .before .args in sym (lay-length-out (a .n) (a .m) (out-of-range (a .n) (a .m) (λ s. omega (arith, s .n-high))))
+
+returns-3 : tie.Need-returns-3
+returns-3 c = let a = c .before .before .before .args in sym (lay-length-out (a .n) (a .m) (out-of-range (a .n) (a .m) (λ s. omega (arith, s .m-low))))
+
+returns-4 : tie.Need-returns-4
+returns-4 c = let a = c .before .before .before .before .args in sym (lay-length-out (a .n) (a .m) (out-of-range (a .n) (a .m) (λ s. omega (arith, s .m-high))))
+
+mul-result : tie.Need-mul-result
+mul-result c = let a = c .before .before .before .before .args in omega (arith, product-le (a .n) (a .m) (omega arith) (omega arith))
+
+mul-result-2 : tie.Need-mul-result-2
+mul-result-2 c = let a = c .before .before .before .before .args in omega (arith, product-le (a .n) (a .m) (omega arith) (omega arith))
+
+add-result : tie.Need-add-result
+add-result c = let a = c .before .before .before .before .args in omega (arith, product-le (a .n) (a .m) (omega arith) (omega arith))
+
+returns-5 : tie.Need-returns-5
+returns-5 c = let a = c .before .before .before .before .args in sym (lay-length-in (a .n) (a .m) (record { n-low = omega arith; n-high = omega arith; m-low = omega arith; m-high = omega arith }))
+
+pub lay-length-spec : {M : Type 1} → statement M
+lay-length-spec =
+    tie.close
+    (tie.spec returns returns-2 returns-3 returns-4 mul-result mul-result-2 add-result returns-5)

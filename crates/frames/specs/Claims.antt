@@ -1,0 +1,73 @@
+-- What is proved of lines, frames and sessions; the value is in proofs/Claims.antt.
+use mathlib.Core.Path.{_≡_}
+use mathlib.Core.Bool.{true}
+use mathlib.Core.List.{List, [], _∷_, _++_}
+use mathlib.Core.Option.{some}
+use Prim.Native.Nat.{ℕ, _*_, _<_}
+use lib.ListN.{length}
+use Rattle.quorum.specs.Bytes.{AreBytes, number}
+use Rattle.rules.specs.Calls.{Call, lay}
+use Rattle.rules.specs.Rules.{noSize}
+use Rattle.rules.specs.Reply.{reply, after}
+use Rattle.rules.specs.declared.Reply.{Reply}
+use Rattle.rules.specs.Passed.{Passable, Word}
+use Rattle.rules.specs.Book.{Book}
+use Rattle.rules.specs.Demand3.{Demand3}
+use Rattle.frames.specs.Hex.{allDigits, bytesIn, hexOf}
+use Rattle.frames.specs.Frame.{callOf, frameOf, Framable}
+use Rattle.frames.specs.ReplyLine.{lineEnd, replyLine}
+use Rattle.frames.specs.Session.{lent, replyTo, tableAfter, printed}
+use Rattle.frames.specs.Lines.{linesOf}
+use Rattle.frames.specs.Run.{run}
+use Rattle.frames.specs.Feed.{clip, start, inPieces, joined}
+use Rattle.frames.specs.Calls.{ShowsTheBook, callsOn, repliesOn, NoLayDone, repliesOf}
+
+-- no byte of a line ends it
+abbrev pub NoEnd : List ℕ → Type 0
+NoEnd [] = Unit {0}
+NoEnd (byte ∷ rest) = (byte ≡ lineEnd → ⊥) × NoEnd rest
+
+-- what a reply line has room for, and what it shows
+abbrev pub Showable : Reply → Type 0
+Showable r = (r .number < 256) × Word (r .first) × Word (r .second) × Word (r .third)
+
+abbrev pub Shows : List ℕ → ℕ → Reply → Type 0
+Shows bytes call r =
+    (number bytes 0 1 ≡ call) × (number bytes 1 1 ≡ r .number) × (number bytes 2 8 ≡ r .first) × (number bytes 10 8 ≡ r .second)
+    × (number bytes 18 8 ≡ r .third)
+
+pub record Claims : Type 0 where
+  -- ---- hexadecimal, both ways
+  pub read-back : (bytes : List ℕ) → AreBytes bytes → bytesIn (hexOf bytes) ≡ bytes
+  pub shown-again : (line : List ℕ) (n : ℕ) → length line ≡ 2 * n → allDigits line ≡ true → hexOf (bytesIn line) ≡ line
+  -- ---- lines: these three determine the lines of any input
+  pub no-lines : linesOf [] ≡ []
+  pub ended-line : (line rest : List ℕ) → NoEnd line → linesOf (line ++ lineEnd ∷ rest) ≡ line ∷ linesOf rest
+  pub last-line : (byte : ℕ) (line : List ℕ) → NoEnd (byte ∷ line) → linesOf (byte ∷ line) ≡ (byte ∷ line) ∷ []
+  -- ---- frames
+  -- the calls of frames are calls that a program can make
+  pub passable : (line : List ℕ) (c : Call) → callOf line ≡ some c → Passable c
+  -- every call whose arguments fit has a frame, and the frame stands for it
+  pub has-frame : (c : Call) → Framable c → callOf (hexOf (frameOf c)) ≡ some c
+  -- ---- reply lines: 52 characters and the line end; the call byte, the number and the figures are read back from them
+  pub reply-length : (call : ℕ) (r : Reply) → length (replyLine call r) ≡ 53
+  pub reply-read-back : (call : ℕ) (r : Reply) → call < 256 → Showable r → Shows (bytesIn (replyLine call r)) call r
+  -- ---- "Lay looks at nothing but its arguments and the table's length."
+  pub lay-looks-at-the-length : (t u : List ℕ) (n m value : ℕ) (config : List ℕ) → length t ≡ length u
+      → reply t (lay n m value config) ≡ reply u (lay n m value config)
+  pub lay-out-of-range : (t u : List ℕ) (n m value : ℕ) (config : List ℕ) → noSize n m ≡ true
+      → reply t (lay n m value config) ≡ reply u (lay n m value config)
+  pub lay-reads-no-byte : (t u : List ℕ) (n m value : ℕ) (config : List ℕ) → length t ≡ length u
+      → reply t (lay n m value config) .number ≡ 0 → after t (lay n m value config) ≡ after u (lay n m value config)
+  -- ---- a long line can be cut: the first 87 bytes of a line tell its reply
+  pub cut-line : (t line : List ℕ) → (printed t (clip line) ≡ printed t line) × (tableAfter t (clip line) ≡ tableAfter t line)
+  -- ---- no line is lost or split however the input is cut into reads
+  pub in-pieces : (pieces : List (List ℕ)) → inPieces start pieces ≡ run (joined pieces)
+  -- ---- demand 3 of a run: every commit line that replies 0, in any input, shows the figures of the book that is fed the calls of
+  -- the frames with the numbers printed, whatever the book held at first
+  pub shows-the-book : Demand3 → (input : List ℕ) (b : Book) → ShowsTheBook [] b (linesOf input)
+  -- a lay that replies 0 begins a list of demand 3, and the session replies as that list does
+  pub list-of-demand-3 : (t line : List ℕ) (n m value : ℕ) (config : List ℕ) (lines : List (List ℕ))
+      → callOf line ≡ some (lay n m value config) → replyTo t line .number ≡ 0 → NoLayDone (tableAfter t line) lines
+      → replyTo t line ∷ repliesOn (tableAfter t line) lines
+      ≡ repliesOf (lent t (lay n m value config)) (lay n m value config ∷ callsOn lines)
