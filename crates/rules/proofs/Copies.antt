@@ -18,7 +18,7 @@ use Rattle.rules.specs.Demand2.{Newest}
 use Rattle.rules.proofs.Newest.{heard-finds}
 use Rattle.rules.proofs.Stored.{stored}
 
--- "some write quorum of the configuration, all of whose replicas have P": the witness is a station set that holds a write set
+-- some write quorum of the configuration, all of whose replicas have P: the witness is a station set that holds a write set
 pub record Quorum (n : ℕ) (config : List ℕ) (P : ℕ → Type 0) : Type 0 where
   pub set : ℕ
   pub writable : holdsWrite config set ≡ true

@@ -43,9 +43,9 @@ no-figures k = let z = same (eqb k 0) 0 in (z, z, z)
     same true x = refl
     same false x = refl
 
-pub three-calls-have-figures : (t : List ℕ) (c : Call) → hasFigures c ≡ false → ZeroFigures (reply t c)
+pub other-calls-have-no-figures : (t : List ℕ) (c : Call) → hasFigures c ≡ false → ZeroFigures (reply t c)
 unfolding reply
-three-calls-have-figures t c h = rw (without-figures (view t) c h) (no-figures (numberOf (view t) c))
+other-calls-have-no-figures t c h = rw (without-figures (view t) c h) (no-figures (numberOf (view t) c))
 
 pub number-is-listed : (t : List ℕ) (c : Call) → reply t c .number ≤ 11
 unfolding reply numberOf

@@ -92,11 +92,11 @@ held : (t : List ℕ) (c : Call) → AreBytes t → Passable c → Allowed (view
 unfolding done
 held t (lay n m value config) b p a f =
     let z = a .0 in
-    holds-laid (view t) n m value config (omega arith) (omega arith) (p .2) (promise .valid-length n config (a .2)) (p .3)
+    holds-laid (view t) n m value config (omega arith) (omega arith) (p .0) (promise .valid-length n config (a .2)) (p .1)
 held t (openRead i) b p a f = opens-plain t (view t) (holds-own t b (a .0)) 1 i 0 (omega arith) (omega arith) f
-held t (openWrite i value) b p a f = opens-plain t (view t) (holds-own t b (a .0)) 2 i value (omega arith) (p .1) f
+held t (openWrite i value) b p a f = opens-plain t (view t) (holds-own t b (a .0)) 2 i value (omega arith) p f
 held t (openChange i target) b p a f =
-    opens t (view t) (holds-own t b (a .0)) 3 i 0 target (omega arith) (omega arith) (promise .valid-length (view t .n) target (a .2)) (p .1) f
+    opens t (view t) (holds-own t b (a .0)) 3 i 0 target (omega arith) (omega arith) (promise .valid-length (view t .n) target (a .2)) p f
 held t (poll s) b p a f = holds-polled t (view t) (holds-own t b (a .0)) _ (two-bytes _ f _ (f .polled))
 held t (put s sort) b p a f =
     holds-puts t (view t) (holds-own t b (a .0)) _ _ (two-bytes _ f _ (f .dataPuts)) (two-bytes _ f _ (f .configPuts))
