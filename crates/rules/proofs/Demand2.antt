@@ -31,19 +31,19 @@ both a b p q = (λ e. (p .0 (and-left a b e), q .0 (and-right a b e)), λ h. and
 -- ---- the store's tests are the conditions of source 000
 module _ (v : State) where
   -- a round that is heard has found something
-  found : heard v ≡ true → Found v
+  pub found : heard v ≡ true → Found v
   found e =
       let h = heard-finds (own v) (v .round .polled) (v .n) e in
       record { g = h .g; b = h .b; newestGeneration = h .newestGeneration; newestVersion = h .newestVersion }
 
   module _ (f : Found v) where
-    generation-found : foundByGeneration v ≡ own v (f .g)
+    pub generation-found : foundByGeneration v ≡ own v (f .g)
     generation-found = by-generation (own v) (v .round .polled) (v .n) (f .g) (f .newestGeneration)
 
-    version-found : foundByVersion v ≡ own v (f .b)
+    pub version-found : foundByVersion v ≡ own v (f .b)
     version-found = by-version (own v) (v .round .polled) (v .n) (f .b) (f .newestVersion)
 
-    is-heard : (heard v ≡ true) ↔ Heard v f
+    pub is-heard : (heard v ≡ true) ↔ Heard v f
     unfolding hears
     is-heard = rw generation-found (promise .holds-read (own v (f .g) .config) (v .round .polled))
 

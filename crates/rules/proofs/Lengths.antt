@@ -24,7 +24,7 @@ use Rattle.rules.specs.Figures.{closing}
 use Rattle.rules.specs.After.{putCopies, done}
 use Rattle.rules.specs.Passed.{Passable}
 use Rattle.rules.specs.Reply.{reply, after}
-use Rattle.rules.proofs.Chains.{Allowed}
+use Rattle.rules.specs.Done.{Allowed}
 use Rattle.rules.proofs.Stored.{laid-length, put-length}
 use Rattle.rules.proofs.Views.{done-after, done-allowed, holds-next}
 

@@ -2,6 +2,7 @@ pub mod Chains
 pub mod Newest
 pub mod Demand1
 pub mod Demand2
+pub mod Done
 pub mod Stored
 pub mod States
 pub mod Views

@@ -9,7 +9,8 @@ use Rattle.layout.proofs.Soundness.{RoundFacts, StateSound, is-sound}
 use Rattle.rules.specs.Calls.{Call, lay, openRead, openWrite, openChange, poll, put, commit, abandon, link, reach}
 use Rattle.rules.specs.Rules.{numberOf}
 use Rattle.rules.specs.Reply.{reply}
-use Rattle.rules.proofs.Chains.{Allowed, allowed, open-busy}
+use Rattle.rules.specs.Done.{Allowed}
+use Rattle.rules.proofs.Chains.{allowed, open-busy}
 use Rattle.rules.proofs.Book.{Commits, Tested}
 
 -- "in a read both put sets .. are zero; in a write the configuration puts .. are zero"

@@ -24,7 +24,8 @@ use Rattle.rules.specs.Figures.{closing}
 use Rattle.rules.specs.After.{putCopies, done}
 use Rattle.rules.specs.Passed.{Passable}
 use Rattle.rules.specs.Reply.{reply, after}
-use Rattle.rules.proofs.Chains.{Allowed, allowed}
+use Rattle.rules.specs.Done.{Allowed}
+use Rattle.rules.proofs.Chains.{allowed}
 use Rattle.rules.proofs.Newest.{heard-finds}
 use Rattle.rules.proofs.Stored.{Small, committed, holds-copies, holds-laid}
 pub use Rattle.rules.proofs.States.{next}

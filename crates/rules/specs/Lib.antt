@@ -8,5 +8,6 @@ pub mod Book
 pub mod Passed
 pub mod Demand1
 pub mod Demand2
+pub mod Done
 pub mod Demand3
 pub mod SoundKept
