@@ -18,6 +18,18 @@ pub data Call : Type 0 where
   link : (station state : ℕ) → Call
   reach : (item : ℕ) → Call
 
+abbrev pub isLay : Call → Bool
+isLay (lay n m value config) = true
+isLay (openRead i) = false
+isLay (openWrite i value) = false
+isLay (openChange i target) = false
+isLay (poll s) = false
+isLay (put s sort) = false
+isLay commit = false
+isLay abandon = false
+isLay (link s state) = false
+isLay (reach i) = false
+
 -- "Put (station, 1 data or 2 configuration)"
 abbrev pub isData : ℕ → Bool
 isData sort = eqb sort 1
