@@ -1,25 +1,22 @@
 -- What the code's own tests come to: a set by its two bytes, a side by its first place, and validity by lanes.
 use mathlib.Core.Path.{_≡_, refl, sym, ap, _∙_, fun-ext}
 use mathlib.Core.Logic.{_↔_}
-use mathlib.Core.Bool.{Bool, true, false, not, cond, _&&_, _||_}
+use mathlib.Core.Bool.{Bool, true, false, not, _&&_, _||_}
 use mathlib.Core.List.{List}
 use Prim.Native.Nat.{ℕ, zero, suc, _+_, _-_, _*_, _^_, _≤_, _<_}
 use native.Mathlib.Nat.{zero-add, min-eq-left}
 use native.Mathlib.Numerals.{add-one}
 use native.Mathlib.Omega.{arith}
 use lib.ListN.{length, getD, List·getD-eq-default}
-use lib.Dec.{leb, ltb, eqb}
+use lib.Dec.{leb, eqb}
 use lib.Pow.{pow-pos}
 use borrow.Author.Tests.{eq-eqb, ne-eqb, eqb-true, eqb-false, leb-true, le-leb, ltb-true, lt-ltb, not-true}
-use Rattle.quorum.specs.Tests.{allBelow, anyBelow}
-use Rattle.quorum.specs.Bytes.{number}
-use Rattle.quorum.specs.Sets.{used, holds, shares, within, full}
+use Rattle.quorum.specs.Tests.{anyBelow}
+use Rattle.quorum.specs.Sets.{used, shares, within, full}
 use Rattle.quorum.specs.Configurations.{setAt, readSet, writeSet, valid, holdsPlace, holdsRead, holdsWrite, firstPlace, firstRead, firstWrite}
 use Rattle.quorum.specs.Lanes.{pairOk, gapOk, rowOk, laneOk, lanesOk, placeHeld, anyHeld, firstHeld}
 use Rattle.quorum.specs.Promise.{Valid}
-use Rattle.quorum.specs.declared.Place.{Place}
-use Rattle.quorum.specs.declared.Place.the-variants.{At, Nowhere}
-use Rattle.quorum.proofs.Tests.{clash, by-cases, same-test, and-left, and-right, and-both, or-left, or-right, or-cases, implies, implied, all-below, below-all}
+use Rattle.quorum.proofs.Tests.{clash, by-cases, same-test, and-left, and-right, and-both, or-left, or-right, or-cases, all-below, below-all}
 use Rattle.quorum.proofs.Bytes.{number-two}
 use Rattle.quorum.proofs.Members.{shares-members, within-members}
 use Rattle.quorum.proofs.Validity.{valid-facts, facts-valid, first-used}

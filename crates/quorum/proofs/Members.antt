@@ -1,16 +1,16 @@
 -- Station sets by their members.
 use mathlib.Core.Path.{_≡_, refl, sym, ap, _∙_}
-use mathlib.Core.Bool.{Bool, true, false, not, cond, _&&_, _||_, and-true, and-false}
+use mathlib.Core.Bool.{Bool, true, false, not, _&&_, _||_, and-true, and-false}
 use Prim.Native.Nat.{ℕ, zero, suc, _+_, _-_, _*_, _/_, _%_, _^_, _≤_, _<_, min, max}
 use mathlib.Core.Logic.{_↔_}
 use native.Mathlib.Nat.{not-suc-le-zero, div-one, zero-div, min-eq-left, min-eq-right, one-mul, mod-eq-of-lt, le-of-lt}
 use native.Mathlib.Numerals.{one-add}
 use native.Mathlib.Omega.{arith}
-use lib.Dec.{ltb, leb, eqb, leb·suc-suc, eqb·suc-suc, eqb·zero-suc, eqb·suc-zero}
+use lib.Dec.{ltb, eqb, leb·suc-suc, eqb·suc-suc, eqb·zero-suc, eqb·suc-zero}
 use lib.Arith.{bin-ind, digits-div, digits-mod}
 use lib.Pow.{shr-shr, pow-pos, pow-lt, pow-mono}
-use lib.Bits.{bitAnd, bitOr, and-step, or-step, and-le-l, and-lt, or-lt, and-zero-l, and-zero-r}
-use borrow.Author.Tests.{ltb-true, ltb-false, lt-ltb, le-ltb, eqb-true, eqb-false, eq-eqb, ne-eqb, not-true, not-false}
+use lib.Bits.{bitAnd, bitOr, and-step, or-step, and-le-l, or-lt}
+use borrow.Author.Tests.{ltb-true, lt-ltb, le-ltb, eqb-true, eqb-false, eq-eqb, ne-eqb, not-true}
 use Rattle.quorum.specs.Sets.{member, used, holds, shares, within, join, minus, remove, full}
 use Rattle.quorum.proofs.Tests.{same-test, and-left, and-right, and-both, by-cases, clash}
 

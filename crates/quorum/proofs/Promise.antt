@@ -1,22 +1,19 @@
 -- The crate keeps its promise.
-use mathlib.Core.Path.{_≡_, refl, sym, ap, _∙_}
-use mathlib.Core.Bool.{Bool, true, false, not, cond, _&&_, _||_}
+use mathlib.Core.Path.{_≡_, refl, _∙_}
+use mathlib.Core.Bool.{Bool, true, false}
 use mathlib.Core.List.{List}
 use mathlib.Core.Logic.{_↔_}
-use Prim.Native.Nat.{ℕ, zero, suc, _+_, _≤_, _<_, _^_}
-use native.Mathlib.Nat.{not-suc-le-zero}
+use Prim.Native.Nat.{ℕ, _+_, _≤_, _^_}
 use native.Mathlib.Omega.{arith}
 use lib.ListN.{length}
-use lib.Dec.{ltb, eqb}
 use lib.Pow.{pow-pos, pow-mono}
-use borrow.Author.Tests.{ltb-true, lt-ltb, eqb-true, eqb-false, ne-eqb, not-true}
+use borrow.Author.Tests.{ltb-true, lt-ltb, ne-eqb}
 use Rattle.quorum.specs.Tests.{anyBelow}
-use Rattle.quorum.specs.Sets.{member, used, holds, shares, within, remove, full}
+use Rattle.quorum.specs.Sets.{member, used, within, remove, full}
 use Rattle.quorum.specs.Configurations.{setAt, readSet, writeSet, valid, holdsPlace, holdsRead, holdsWrite, firstPlace, firstRead, firstWrite}
-use Rattle.quorum.specs.Promise.{Promise, Some, _⊆_, LiesIn, FirstIn, Side, Valid}
-use Rattle.quorum.specs.declared.Place.{Place}
-use Rattle.quorum.specs.declared.Place.the-variants.{At, Nowhere}
-use Rattle.quorum.proofs.Tests.{clash, by-cases, same-test, any-below, below-any, none-below}
+use Rattle.quorum.specs.Promise.{Promise, Some, _⊆_, LiesIn, FirstIn, Side}
+use Rattle.quorum.specs.declared.Place.the-variants.{At}
+use Rattle.quorum.proofs.Tests.{clash, same-test, any-below, below-any}
 use Rattle.quorum.proofs.Members.{member-empty, member-join, member-minus, member-remove, member-full, same-members, holds-member, member-holds, shares-members, used-member, within-members, within-join, within-minus}
 use Rattle.quorum.proofs.Validity.{valid-facts, facts-valid, first-used, place-lies, lies-place, first-found, first-nowhere}
 

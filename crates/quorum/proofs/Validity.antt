@@ -1,23 +1,21 @@
 -- A valid configuration, as facts about its places, and the places of a side that a set holds.
 use mathlib.Core.Path.{_≡_, refl, sym, ap, _∙_}
-use mathlib.Core.Bool.{Bool, true, false, not, cond, _&&_, _||_}
-use mathlib.Core.List.{List, [], _∷_}
+use mathlib.Core.Bool.{Bool, true, false, not, cond, _||_}
+use mathlib.Core.List.{List}
 use mathlib.Core.Logic.{_↔_, _⊎_, inl, inr, ⊎-elim}
-use Prim.Native.Nat.{ℕ, zero, suc, _+_, _*_, _≤_, _<_}
+use Prim.Native.Nat.{ℕ, zero, suc, _+_, _≤_, _<_}
 use native.Mathlib.Nat.{not-suc-le-zero, le-antisymm}
 use native.Mathlib.Numerals.{add-one}
 use native.Mathlib.Omega.{arith}
 use lib.ListN.{length}
-use lib.Dec.{leb, eqb}
+use lib.Dec.{eqb}
 use borrow.Author.Tests.{leb-true, le-leb, eqb-true, eqb-false, eq-eqb, not-true}
-use Rattle.quorum.specs.Tests.{all, allBelow, anyBelow}
-use Rattle.quorum.specs.Bytes.{number}
-use Rattle.quorum.specs.Sets.{member, used, holds, shares, within}
-use Rattle.quorum.specs.Configurations.{setAt, readSet, writeSet, usedFirst, someUsed, allWithin, sharesAll, allShare, validity, valid, holdsPlace, firstPlace, orElse}
+use Rattle.quorum.specs.Tests.{anyBelow}
+use Rattle.quorum.specs.Sets.{used}
+use Rattle.quorum.specs.Configurations.{readSet, writeSet, usedFirst, someUsed, allWithin, sharesAll, allShare, validity, valid, holdsPlace, firstPlace, orElse}
 use Rattle.quorum.specs.Promise.{LiesIn, Side, Valid}
-use Rattle.quorum.specs.declared.Place.{Place}
 use Rattle.quorum.specs.declared.Place.the-variants.{At, Nowhere}
-use Rattle.quorum.proofs.Tests.{clash, by-cases, and-left, and-right, and-both, implies, implied, or-cases, AllTrue, all-true, true-all, all-below, below-all, any-below, below-any, below-suc}
+use Rattle.quorum.proofs.Tests.{clash, by-cases, and-left, and-right, and-both, implies, implied, or-cases, all-true, true-all, all-below, below-all, any-below, below-any, below-suc}
 use Rattle.quorum.proofs.Members.{holds-member, member-holds, shares-members, within-members}
 
 or-swap : (a b : Bool) → (a || not b) ≡ true → b ≡ true → a ≡ true

@@ -8,6 +8,7 @@ pub mod States
 pub mod Views
 pub mod Kept
 pub mod Lengths
+pub mod Steps
 pub mod Copies
 pub mod Book
 pub mod Tested

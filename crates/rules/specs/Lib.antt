@@ -9,5 +9,6 @@ pub mod Passed
 pub mod Demand1
 pub mod Demand2
 pub mod Done
+pub mod Steps
 pub mod Demand3
 pub mod SoundKept
