@@ -9,6 +9,7 @@ pub mod Views
 pub mod Kept
 pub mod Lengths
 pub mod Steps
+pub mod Twice
 pub mod Copies
 pub mod Book
 pub mod Tested

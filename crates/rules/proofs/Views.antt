@@ -85,7 +85,7 @@ module _ (t : List ℕ) (w : State) (h : Holds t w) where
   opens-plain k i x lk lx f = opens k i x noTarget lk lx refl (bytes-zeros configSize) f
 
 -- a set of stations of a sound state fits into two bytes
-two-bytes : (v : State) → StateSound v → (set : ℕ) → within (v .n) set ≡ true → set < 65536
+pub two-bytes : (v : State) → StateSound v → (set : ℕ) → within (v .n) set ≡ true → set < 65536
 two-bytes v f set w = promise .within-16 (v .n) set (f .small) w
 
 -- the bytes after each call hold the state after it; that this state is sound bounds what is written
