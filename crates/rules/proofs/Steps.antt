@@ -19,7 +19,7 @@ use Rattle.layout.proofs.Soundness.{StateSound, is-sound}
 use Rattle.layout.proofs.Held.{withOff, withRound}
 use Rattle.rules.specs.Calls.{Call, lay, openRead, openWrite, openChange, poll, put, commit, abandon, link, reach}
 use Rattle.rules.specs.Newest.{own, heard}
-use Rattle.rules.specs.Figures.{figuresOf, closing, onBus}
+use Rattle.rules.specs.Figures.{figuresOf, closing, reachOf, onBus}
 use Rattle.rules.specs.Rules.{numberOf}
 use Rattle.rules.specs.After.{done as afterDone}
 use Rattle.rules.specs.Reply.{reply, after}
@@ -201,7 +201,7 @@ module _ (v : State) (i : ℕ) (f : StateSound v) where
       let x = some-newest (λ s. v .copies i s .generation) (full (v .n)) (v .n) 0 (f .positive) (all-stations 0 ∙ lt-ltb 0 (v .n) (f .positive)) in
       let config = v .copies i (x .0) .config in
       let e = by-generation (v .copies i) (full (v .n)) (v .n) (x .0) (x .1) in
-      let y : r .first ≡ three (holdsRead config (onBus v)) (holdsWrite config (onBus v)) = rw e at (q .0) in
+      let y : r .first ≡ three (holdsRead config (onBus v)) (holdsWrite config (onBus v)) = q .0 ∙ ap (λ x. reachOf (x .config) (onBus v)) e in
       let z = three-told (holdsRead config (onBus v)) (holdsWrite config (onBus v)) (promise .holds-read config (onBus v)) (promise .holds-write config (onBus v)) in
       record {
         all = full (v .n);
