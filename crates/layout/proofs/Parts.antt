@@ -1,11 +1,11 @@
 -- Parts of a list of bytes, what a write leaves of them, and numbers in bytes.
 use mathlib.Core.Path.{_≡_, refl, sym, ap, _∙_}
 use mathlib.Core.List.{List, [], _∷_, _++_, append-assoc}
-use Prim.Native.Nat.{ℕ, zero, suc, _+_, _-_, _*_, _/_, _%_, _^_, _≤_, _<_}
+use Prim.Native.Nat.{ℕ, zero, suc, _+_, _-_, _/_, _^_, _≤_, _<_}
 use native.Mathlib.Omega.{arith}
-use native.Mathlib.Nat.{one-le-pow, zero-lt-suc, add-zero, add-assoc}
-use lib.ListN.{length, getD, take, drop, set, replicate, length-append, length-take, length-drop, length-set, take-append-drop}
-use lib.Seq.{take-at, drop-at, length-take-le, take-append-le, drop-append-le, drop-append-add, drop-drop, take-all, take-take, take-suc-set, drop-set-lt, append-snoc}
+use native.Mathlib.Nat.{one-le-pow, zero-lt-suc, add-zero}
+use lib.ListN.{length, take, drop, set, replicate, length-append, length-take, length-drop, length-set, take-append-drop}
+use lib.Seq.{take-at, drop-at, length-take-le, take-append-le, drop-append-le, drop-append-add, drop-drop, take-all, take-suc-set, drop-set-lt, append-snoc}
 use Rattle.quorum.specs.Bytes.{part, littleEndian, number, AreBytes}
 use Rattle.layout.specs.Updates.{bytesOf, over}
 

@@ -16,7 +16,7 @@ use Rattle.rules.specs.Rules.{wrongPut, spent, spentAtPut, written}
 use Rattle.rules.specs.Reply.{reply}
 use Rattle.rules.specs.Demand2.{Found, Heard}
 
--- what a call needs, in the order of the numbers that it gets without
+-- what a call needs, in the order in which it is tested
 abbrev pub Allowed : State → Call → Type 0
 Allowed v (lay n m value config) =
     ((1 ≤ n) × (n ≤ 16) × (1 ≤ m) × (m ≤ 32)) × (v .fits n m ≡ true) × (valid n config ≡ true)
