@@ -9,6 +9,7 @@ use Rattle.frames.proofs.ReplyLine
 use Rattle.frames.proofs.Laying
 use Rattle.frames.proofs.Book
 use Rattle.frames.proofs.Pieces
+use Rattle.rules.proofs.Demands.{demand3}
 
 pub claims : Claims
 unfolding linesOf
@@ -23,11 +24,9 @@ claims =
       has-frame = Framing.has-frame;
       reply-length = ReplyLine.reply-length;
       reply-read-back = ReplyLine.reply-read-back;
-      lay-looks-at-the-length = Laying.lay-looks-at-the-length;
       lay-out-of-range = Laying.lay-out-of-range;
-      lay-reads-no-byte = Laying.lay-reads-no-byte;
       cut-line = λ t line. (Pieces.printed-clip t line, Pieces.table-clip t line);
       in-pieces = Pieces.in-pieces;
-      shows-the-book = λ demand3 input. Book.shows-the-book demand3 (linesOf input);
+      shows-the-book = λ input. Book.shows-the-book demand3 (linesOf input);
       list-of-demand-3 = Book.list-of-demand-3;
     }

@@ -84,17 +84,14 @@ maybe-at (o ∷ rest) h zero = h .0
 maybe-at (o ∷ rest) h (suc k) = maybe-at rest (h .1) k
 
 module _ (bytes : List ℕ) (h : AreBytes bytes) where
-  small : (at : ℕ) → Word (number bytes at 1)
-  small at = let l = number-lt bytes at 1 h in omega arith
-
   large : (at : ℕ) → Word (number bytes at 8)
   large at = let l = number-lt bytes at 8 h in omega arith
 
   all-maybe : AllMaybe (callsOf bytes)
   unfolding callsOf
   all-maybe =
-      tt also (small 1, small 2, large 3, bytes-part bytes 11 32 h) also small 1 also (small 1, large 2) also (small 1, bytes-part bytes 2 32 h)
-      also small 1 also (small 1, small 2) also tt also tt also (small 1, small 2) also small 1 also tt
+      tt also (large 3, bytes-part bytes 11 32 h) also tt also large 2 also bytes-part bytes 2 32 h also tt also tt also tt also tt also tt
+      also tt also tt
 
 pub passable : (line : List ℕ) (c : Call) → callOf line ≡ some c → Passable c
 unfolding callOf

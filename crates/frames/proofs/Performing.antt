@@ -12,16 +12,17 @@ use lib.Seq.{take-at, drop-at, length-take-le}
 use borrow.Author.Tests.{le-leb, leb-true, not-false}
 use Rattle.quorum.proofs.Tests.{by-cases, and-left, and-right}
 use Rattle.layout.specs.Layout.{tableLength}
-use Rattle.rules.specs.Calls.{Call, lay}
+use Rattle.rules.specs.Calls.{Call, isLay, lay}
 use Rattle.rules.specs.Rules.{noSize}
 use Rattle.rules.specs.After.{done}
 use Rattle.rules.specs.Reply.{reply, after}
 use Rattle.rules.specs.declared.Reply.{Reply}
 use Rattle.frames.specs.Frame.{callsOf}
 use Rattle.frames.specs.Session.{lent, replyOr, tableOr}
-use Rattle.frames.specs.Calls.{isLay}
 use Rattle.frames.specs.Performing.{largest, callAt, layLength, Holds}
-use Rattle.frames.proofs.Laying.{done-after, lay-looks-at-the-length, lay-out-of-range}
+use Rattle.rules.proofs.Views.{done-after}
+use Rattle.rules.proofs.Demands.{twice}
+use Rattle.frames.proofs.Laying.{lay-out-of-range}
 use Rattle.frames.proofs.Book.{lent-same, refused-after, replaced, kept, went-on}
 
 -- ---- the sizes of a table
@@ -122,7 +123,7 @@ module _ (old : List ℕ) (whole : length old ≡ largest) where
         by-size n m (λ e. lay-out-of-range _ _ n m value config e)
         (λ e.
         let k : length (take (layLength n m) old) ≡ layLength n m = length-take-le (layLength n m) old (omega (arith, lay-length-le n m)) in
-        lay-looks-at-the-length _ _ n m value config (k ∙ lay-length-is n m e ∙ sym (length-replicate (tableLength n m) 0)))
+        twice .lay-reply _ _ n m value config (k ∙ lay-length-is n m e ∙ sym (length-replicate (tableLength n m) 0)))
 
     module _ (o : Option Call) (r : Reply) (last : List ℕ) (need : ℕ) (d : need ≡ layLength n m) (e : o ≡ some (lay n m value config))
         (p : r ≡ reply (take need old) (lay n m value config)) (q : last ≡ after (take need old) (lay n m value config)) where

@@ -4,7 +4,7 @@ use mathlib.Core.Bool.{Bool, true, false, cond}
 use mathlib.Core.List.{List, [], _∷_}
 use mathlib.Core.Option.{Option, none, some}
 use Prim.Native.Nat.{ℕ}
-use Rattle.rules.specs.Calls.{Call, lay, openRead, openWrite, openChange, poll, put, commit, abandon, link, reach}
+use Rattle.rules.specs.Calls.{Call, commit, isLay}
 use Rattle.rules.specs.Reply.{reply, after}
 use Rattle.rules.specs.declared.Reply.{Reply}
 use Rattle.rules.specs.Book.{Book, fed}
@@ -30,18 +30,6 @@ ShowsTheBook t b (line ∷ lines) =
 -- ---- the lists of demand 3 in a session: a lay that replies 0 begins one, on the bytes that it is lent; the frames after it are
 -- calls on the table as the call before left it, up to the next lay that replies 0. A refused lay is lent bytes of its own, keeps
 -- the table, and stands in no list.
-abbrev pub isLay : Call → Bool
-isLay (lay n m value config) = true
-isLay (openRead i) = false
-isLay (openWrite i value) = false
-isLay (openChange i target) = false
-isLay (poll s) = false
-isLay (put s sort) = false
-isLay commit = false
-isLay abandon = false
-isLay (link s state) = false
-isLay (reach i) = false
-
 -- the calls among lines that are no lays
 abbrev pub callThen : Option Call → List Call → List Call
 callThen none calls = calls

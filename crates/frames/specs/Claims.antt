@@ -8,11 +8,10 @@ use lib.ListN.{length}
 use Rattle.quorum.specs.Bytes.{AreBytes, number}
 use Rattle.rules.specs.Calls.{Call, lay}
 use Rattle.rules.specs.Rules.{noSize}
-use Rattle.rules.specs.Reply.{reply, after}
+use Rattle.rules.specs.Reply.{reply}
 use Rattle.rules.specs.declared.Reply.{Reply}
 use Rattle.rules.specs.Passed.{Passable, Word}
 use Rattle.rules.specs.Book.{Book}
-use Rattle.rules.specs.Demand3.{Demand3}
 use Rattle.frames.specs.Hex.{allDigits, bytesIn, hexOf}
 use Rattle.frames.specs.Frame.{callOf, frameOf, Framable}
 use Rattle.frames.specs.ReplyLine.{lineEnd, replyLine}
@@ -52,20 +51,16 @@ pub record Claims : Type 0 where
   -- ---- reply lines: 52 characters and the line end; the call byte, the number and the figures are read back from them
   pub reply-length : (call : ℕ) (r : Reply) → length (replyLine call r) ≡ 53
   pub reply-read-back : (call : ℕ) (r : Reply) → call < 256 → Showable r → Shows (bytesIn (replyLine call r)) call r
-  -- ---- "Lay looks at nothing but its arguments and the table's length."
-  pub lay-looks-at-the-length : (t u : List ℕ) (n m value : ℕ) (config : List ℕ) → length t ≡ length u
-      → reply t (lay n m value config) ≡ reply u (lay n m value config)
+  -- ---- lay out of range: its reply looks at nothing lent (`Twice` of the rules has the other lays)
   pub lay-out-of-range : (t u : List ℕ) (n m value : ℕ) (config : List ℕ) → noSize n m ≡ true
       → reply t (lay n m value config) ≡ reply u (lay n m value config)
-  pub lay-reads-no-byte : (t u : List ℕ) (n m value : ℕ) (config : List ℕ) → length t ≡ length u
-      → reply t (lay n m value config) .number ≡ 0 → after t (lay n m value config) ≡ after u (lay n m value config)
   -- ---- a long line can be cut: the first 87 bytes of a line tell its reply
   pub cut-line : (t line : List ℕ) → (printed t (clip line) ≡ printed t line) × (tableAfter t (clip line) ≡ tableAfter t line)
   -- ---- no line is lost or split however the input is cut into reads
   pub in-pieces : (pieces : List (List ℕ)) → inPieces start pieces ≡ run (joined pieces)
   -- ---- demand 3 of a run: every commit line that replies 0, in any input, shows the figures of the book that is fed the calls of
   -- the frames with the numbers printed, whatever the book held at first
-  pub shows-the-book : Demand3 → (input : List ℕ) (b : Book) → ShowsTheBook [] b (linesOf input)
+  pub shows-the-book : (input : List ℕ) (b : Book) → ShowsTheBook [] b (linesOf input)
   -- a lay that replies 0 begins a list of demand 3, and the session replies as that list does
   pub list-of-demand-3 : (t line : List ℕ) (n m value : ℕ) (config : List ℕ) (lines : List (List ℕ))
       → callOf line ≡ some (lay n m value config) → replyTo t line .number ≡ 0 → NoLayDone (tableAfter t line) lines

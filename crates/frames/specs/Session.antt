@@ -14,7 +14,7 @@ use Rattle.frames.specs.ReplyLine.{replyLine, falseFrame}
 
 -- The bytes that a call is lent. "For a lay the runner lends just the length that its n and m need." What these bytes hold is free,
 -- and for n or m out of range their number too: "Lay looks at nothing but its arguments and the table's length" (`Claims.antt`,
--- `lay-looks-at-the-length`, `lay-out-of-range`). Every other call gets the table in use.
+-- `lay-reply` of the rules, `lay-out-of-range`). Every other call gets the table in use.
 unfoldable pub lent : List ℕ → Call → List ℕ
 lent t (lay n m value config) = replicate (tableLength n m) 0
 lent t (openRead i) = t

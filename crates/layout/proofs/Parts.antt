@@ -1,11 +1,11 @@
 -- Parts of a list of bytes, what a write leaves of them, and numbers in bytes.
 use mathlib.Core.Path.{_≡_, refl, sym, ap, _∙_}
 use mathlib.Core.List.{List, [], _∷_, _++_, append-assoc}
-use Prim.Native.Nat.{ℕ, zero, suc, _+_, _-_, _*_, _/_, _%_, _^_, _≤_, _<_}
+use Prim.Native.Nat.{ℕ, zero, suc, _+_, _-_, _/_, _^_, _≤_, _<_}
 use native.Mathlib.Omega.{arith}
-use native.Mathlib.Nat.{one-le-pow, zero-lt-suc, add-zero, add-assoc}
-use lib.ListN.{length, getD, take, drop, set, replicate, length-append, length-take, length-drop, length-set, take-append-drop}
-use lib.Seq.{length-take-le, take-append-le, drop-append-le, drop-append-add, drop-drop, take-all, take-take, take-suc-set, drop-set-lt, append-snoc}
+use native.Mathlib.Nat.{one-le-pow, zero-lt-suc, add-zero}
+use lib.ListN.{length, take, drop, set, replicate, length-append, length-take, length-drop, length-set, take-append-drop}
+use lib.Seq.{take-at, drop-at, length-take-le, take-append-le, drop-append-le, drop-append-add, drop-drop, take-all, take-suc-set, drop-set-lt, append-snoc}
 use Rattle.quorum.specs.Bytes.{part, littleEndian, number, AreBytes}
 use Rattle.layout.specs.Updates.{bytesOf, over}
 
@@ -52,6 +52,15 @@ module _ (t : List ℕ) (a : ℕ) (l : List ℕ) (fits : a + length l ≤ length
       let f : length (take a t ++ l) ≡ a + length l = simp (length-append, front) in
       rw (e, ← append-assoc (take a t) l (drop (a + length l) t))
       (part-right (take a t ++ l) (drop (a + length l) t) (a + length l) o k f ∙ ap (take k) (drop-drop o (a + length l) t))
+
+-- the same bytes written once more
+pub over-again : (t : List ℕ) (a : ℕ) (l : List ℕ) → a + length l ≤ length t → over (over t a l) a l ≡ over t a l
+unfolding over
+over-again t a l fits =
+    let d = drop (a + length l) t in
+    let e : length (take a t ++ l) ≡ a + length l = simp (length-append, front t a l fits) in
+    let f : drop (a + length l) (take a t ++ (l ++ d)) ≡ d = rw (← append-assoc (take a t) l d) (drop-at (take a t ++ l) d (a + length l) e) in
+    rw (take-at (take a t) (l ++ d) a (front t a l fits), f)
 
 -- ---- numbers
 pub length-bytes : (k x : ℕ) → length (bytesOf k x) ≡ k

@@ -5,7 +5,8 @@ use Rattle.quorum.specs.Bytes.{part, number}
 use Rattle.layout.specs.Layout.{stationsAt, itemsAt, offAt, kindAt, itemAt, polledAt, dataPutsAt, configPutsAt, valueAt, targetAt, copyVersionAt, copyValueAt, copyGenerationAt, copyConfigAt, configSize, address}
 
 -- One copy: the data replica (version and value) and the configuration replica (generation and configuration) of source 000
--- at one station. "A version is compared only with versions, and a generation only with generations."
+-- at one station. Here both counters are numbers; "A version is compared only with versions, and a generation only with
+-- generations" is kept by the code's types (layout/src/copy.rt).
 pub record Copy : Type 0 where
   pub version : ℕ
   pub value : ℕ
@@ -16,7 +17,14 @@ pub record Copy : Type 0 where
 pub data Kind : Type 0 where
   none read write change : Kind
 
--- "4 round (0 none, 1 read, 2 write, 3 change)"; a table whose byte is above 3 is not sound
+-- "4 round (0 none, 1 read, 2 write, 3 change)": the byte of a kind, and the kind of a byte. A table whose byte is above 3 is not
+-- sound, so that nothing hangs on what it is read as.
+abbrev pub kindByte : Kind → ℕ
+kindByte none = 0
+kindByte read = 1
+kindByte write = 2
+kindByte change = 3
+
 abbrev pub kindOf : ℕ → Kind
 kindOf zero = none
 kindOf (suc zero) = read

@@ -1,5 +1,4 @@
 -- Bytes of the table (document 01): every size and offset, named once.
-use mathlib.Core.List.{List}
 use Prim.Native.Nat.{ℕ, _+_, _*_}
 
 -- "Head, 56 bytes: 0 n; 1 m; 2–3 set of stations off the bus; 4 round (0 none, 1 read, 2 write, 3 change); 5 item;
@@ -64,6 +63,6 @@ configSize = 32
 unfoldable pub address : ℕ → ℕ → ℕ → ℕ
 address n i s = headSize + copySize * (i * n + s)
 
--- "The length is 56 × (1 + n × m)"
+-- "The length is 56 × (1 + n × m), at most 28,728": that of 16 stations and 32 items.
 unfoldable pub tableLength : ℕ → ℕ → ℕ
 tableLength n m = headSize + copySize * (n * m)

@@ -1,5 +1,5 @@
 -- How the code tests soundness: the parts of the list of tests, and the scan over the copies' configurations.
--- Private to the crate: a reader needs `sound`, to which `is_sound` is proved equal.
+-- Not for the crates above: a reader needs `sound`, to which `is_sound` is proved equal.
 use mathlib.Core.Bool.{Bool}
 use mathlib.Core.List.{List}
 use Prim.Native.Nat.{ℕ, suc, _+_, _*_}

@@ -9,7 +9,7 @@ use Rattle.quorum.specs.Bytes.{number}
 use Rattle.quorum.specs.Sets.{shares, within}
 use Rattle.quorum.specs.Configurations.{valid}
 use Rattle.layout.specs.Layout.{tableLength, kindAt, itemAt, spareAt, valueAt, targetAt, configSize}
-use Rattle.layout.specs.Fields.{Kind, none, read, write, change, Round, stations, items, offSet, roundOf, copyOf}
+use Rattle.layout.specs.Fields.{Kind, none, read, write, change, stations, items, offSet, roundOf, copyOf}
 
 -- the bytes from a place on, as many as the width says, are zero
 abbrev pub isZero : List ℕ → ℕ → ℕ → Bool

@@ -2,14 +2,14 @@
 use mathlib.Core.List.{List, [], _∷_, _++_}
 use Prim.Native.Nat.{ℕ, zero, suc, _+_, _/_, _%_}
 use lib.ListN.{length, take, drop, replicate}
-use Rattle.layout.specs.Layout.{offAt, kindAt, itemAt, polledAt, dataPutsAt, valueAt, configSize, copyVersionAt, copyGenerationAt}
+use Rattle.layout.specs.Layout.{offAt, kindAt, polledAt, dataPutsAt, valueAt, configSize, copyVersionAt, copyGenerationAt}
 
 -- the bytes of a number, as many as the width says: "Numbers are least significant byte first."
 unfoldable pub bytesOf : ℕ → ℕ → List ℕ
 bytesOf zero x = []
 bytesOf (suc width) x = x % 256 ∷ bytesOf width (x / 256)
 
--- bytes written from a place on; every other byte stays as it was
+-- bytes written from a place on, within the list; every other byte stays as it was
 unfoldable pub over : List ℕ → ℕ → List ℕ → List ℕ
 over t at bytes = take at t ++ (bytes ++ drop (at + length bytes) t)
 

@@ -1,4 +1,4 @@
--- What the rules know of a table: they speak of this state alone, and of no offset.
+-- What the rules know of a table: the numbers and figures of the replies speak of this state alone, and of no offset.
 use mathlib.Core.Bool.{Bool}
 use mathlib.Core.List.{List}
 use Prim.Native.Nat.{ℕ}

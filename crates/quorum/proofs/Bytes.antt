@@ -1,12 +1,12 @@
 -- Numbers in bytes, one byte after the other.
-use mathlib.Core.Path.{_≡_, refl, sym, ap, _∙_}
+use mathlib.Core.Path.{_≡_, refl}
 use mathlib.Core.List.{List, [], _∷_}
-use Prim.Native.Nat.{ℕ, zero, suc, _+_, _*_, _^_, _≤_, _<_}
+use Prim.Native.Nat.{ℕ, zero, suc, _+_, _*_}
 use native.Mathlib.Omega.{arith}
 use native.Mathlib.Numerals.{add-one}
-use lib.ListN.{getD, take, drop}
+use lib.ListN.{getD}
 use lib.Seq.{take-nil, drop-nil}
-use Rattle.quorum.specs.Bytes.{part, littleEndian, number}
+use Rattle.quorum.specs.Bytes.{littleEndian, number}
 
 pub number-none : (t : List ℕ) (at : ℕ) → number t at 0 ≡ 0
 unfolding littleEndian

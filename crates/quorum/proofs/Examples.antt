@@ -8,7 +8,6 @@ use Rattle.quorum.specs.Tests.{all, allBelow, anyBelow}
 use Rattle.quorum.specs.Bytes.{littleEndian}
 use Rattle.quorum.specs.Sets.{used, holds, shares, within}
 use Rattle.quorum.specs.Configurations.{setAt, readSet, writeSet, usedFirst, someUsed, allWithin, sharesAll, allShare, validity, valid, holdsPlace, holdsRead, holdsWrite, firstPlace, orElse, firstRead, firstWrite}
-use Rattle.quorum.specs.declared.Place.{Place}
 use Rattle.quorum.specs.declared.Place.the-variants.{At, Nowhere}
 
 -- three sets of stations below 8 on a side

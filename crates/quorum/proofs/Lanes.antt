@@ -1,26 +1,25 @@
 -- What the code's own tests come to: a set by its two bytes, a side by its first place, and validity by lanes.
 use mathlib.Core.Path.{_≡_, refl, sym, ap, _∙_, fun-ext}
 use mathlib.Core.Logic.{_↔_}
-use mathlib.Core.Bool.{Bool, true, false, not, cond, _&&_, _||_}
+use mathlib.Core.Bool.{Bool, true, false, not, _&&_, _||_}
 use mathlib.Core.List.{List}
 use Prim.Native.Nat.{ℕ, zero, suc, _+_, _-_, _*_, _^_, _≤_, _<_}
 use native.Mathlib.Nat.{zero-add, min-eq-left}
 use native.Mathlib.Numerals.{add-one}
 use native.Mathlib.Omega.{arith}
 use lib.ListN.{length, getD, List·getD-eq-default}
-use lib.Dec.{leb, ltb, eqb}
+use lib.Dec.{leb, eqb}
 use lib.Pow.{pow-pos}
 use borrow.Author.Tests.{eq-eqb, ne-eqb, eqb-true, eqb-false, leb-true, le-leb, ltb-true, lt-ltb, not-true}
-use Rattle.quorum.specs.Tests.{allBelow, anyBelow}
-use Rattle.quorum.specs.Bytes.{number}
-use Rattle.quorum.specs.Sets.{used, holds, shares, within, full}
+use Rattle.quorum.specs.Tests.{anyBelow}
+use Rattle.quorum.specs.Sets.{used, shares, within, full}
 use Rattle.quorum.specs.Configurations.{setAt, readSet, writeSet, valid, holdsPlace, holdsRead, holdsWrite, firstPlace, firstRead, firstWrite}
 use Rattle.quorum.specs.Lanes.{pairOk, gapOk, rowOk, laneOk, lanesOk, placeHeld, anyHeld, firstHeld}
-use Rattle.quorum.specs.declared.Place.{Place}
-use Rattle.quorum.specs.declared.Place.the-variants.{At, Nowhere}
-use Rattle.quorum.proofs.Tests.{clash, by-cases, same-test, and-left, and-right, and-both, or-left, or-right, or-cases, implies, implied, all-below, below-all}
+use Rattle.quorum.specs.Promise.{Valid}
+use Rattle.quorum.proofs.Tests.{clash, by-cases, same-test, and-left, and-right, and-both, or-left, or-right, or-cases, all-below, below-all}
 use Rattle.quorum.proofs.Bytes.{number-two}
-use Rattle.quorum.proofs.Validity.{Side, Valid, valid-facts, facts-valid, first-used}
+use Rattle.quorum.proofs.Members.{shares-members, within-members}
+use Rattle.quorum.proofs.Validity.{valid-facts, facts-valid, first-used}
 
 -- ---- a set by its two bytes
 pub set-bytes : (c : List ℕ) (place : ℕ) → length c ≡ 32 → setAt c place ≡ getD c (2 * place) 0 + 256 * getD c (2 * place + 1) 0
@@ -129,15 +128,15 @@ module _ (n : ℕ) (c : List ℕ) (p : 1 ≤ n) (l : n ≤ 16) (long : length c 
         reads = record {
           packed = λ k h. rw add-one at (gap-fact c k .0 (lane k (omega arith) .gap) (λ e. omega arith));
           some = (0, omega arith, u);
-          inRange = λ k h. lane k h .read;
+          inRange = λ k h. within-members n (setAt c k) .0 (lane k h .read);
         };
         writes = record {
           packed = λ k h. let e : 7 + suc k ≡ 8 + k = omega arith in let f : 8 + k + 1 ≡ 8 + suc k = omega arith in
               rw (e, f) at (gap-fact c (7 + suc k) .0 (lane (suc k) (omega arith) .gap′) (λ q. omega arith));
           some = (0, omega arith, v);
-          inRange = λ k h. lane k h .write;
+          inRange = λ k h. within-members n (setAt c (8 + k)) .0 (lane k h .write);
         };
-        meet = λ i j h m. pair-fact (setAt c i) (setAt c (8 + j)) .0 (lane i h .row j m);
+        meet = λ i j h m u v. shares-members (setAt c i) (setAt c (8 + j)) .0 (pair-fact (setAt c i) (setAt c (8 + j)) .0 (lane i h .row j m) u v);
       }
 
   -- the second gap of lane 0 lies between the two sides, that of lane k + 1 between write places k and k + 1
@@ -153,11 +152,11 @@ module _ (n : ℕ) (c : List ℕ) (p : 1 ≤ n) (l : n ≤ 16) (long : length c 
   unfolding readSet writeSet
   facts-lane f j h =
       record {
-        read = f .reads .inRange j h;
-        write = f .writes .inRange j h;
+        read = within-members n (setAt c j) .1 (f .reads .inRange j h);
+        write = within-members n (setAt c (8 + j)) .1 (f .writes .inRange j h);
         gap = gap-fact c j .1 (λ ne. rw add-one (f .reads .packed j (omega arith)));
         gap′ = gap-fact c (7 + j) .1 (facts-gap f j h);
-        row = λ k m. pair-fact (setAt c j) (setAt c (8 + k)) .1 (f .meet j k h m);
+        row = λ k m. pair-fact (setAt c j) (setAt c (8 + k)) .1 (λ u v. shares-members (setAt c j) (setAt c (8 + k)) .1 (f .meet j k h m u v));
       }
 
   pub lanes-valid : (used (setAt c 0) && used (setAt c 8) && lanesOk c (full n)) ≡ valid n c

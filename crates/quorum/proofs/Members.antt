@@ -1,15 +1,16 @@
 -- Station sets by their members.
 use mathlib.Core.Path.{_≡_, refl, sym, ap, _∙_}
-use mathlib.Core.Bool.{Bool, true, false, not, cond, _&&_, _||_, and-true, and-false}
+use mathlib.Core.Bool.{Bool, true, false, not, _&&_, _||_, and-true, and-false}
 use Prim.Native.Nat.{ℕ, zero, suc, _+_, _-_, _*_, _/_, _%_, _^_, _≤_, _<_, min, max}
-use native.Mathlib.Nat.{div-one, zero-div, min-eq-left, min-eq-right, one-mul, mod-eq-of-lt, le-of-lt}
+use mathlib.Core.Logic.{_↔_}
+use native.Mathlib.Nat.{not-suc-le-zero, div-one, zero-div, min-eq-left, min-eq-right, one-mul, mod-eq-of-lt, le-of-lt}
 use native.Mathlib.Numerals.{one-add}
 use native.Mathlib.Omega.{arith}
-use lib.Dec.{ltb, leb, eqb, leb·suc-suc, eqb·suc-suc, eqb·zero-suc, eqb·suc-zero}
+use lib.Dec.{ltb, eqb, leb·suc-suc, eqb·suc-suc, eqb·zero-suc, eqb·suc-zero}
 use lib.Arith.{bin-ind, digits-div, digits-mod}
 use lib.Pow.{shr-shr, pow-pos, pow-lt, pow-mono}
-use lib.Bits.{bitAnd, bitOr, and-step, or-step, and-le-l, and-lt, or-lt, and-zero-l, and-zero-r}
-use borrow.Author.Tests.{ltb-true, ltb-false, lt-ltb, le-ltb, eqb-true, eqb-false, eq-eqb, ne-eqb, not-true, not-false}
+use lib.Bits.{bitAnd, bitOr, and-step, or-step, and-le-l, or-lt}
+use borrow.Author.Tests.{ltb-true, lt-ltb, le-ltb, eqb-true, eqb-false, eq-eqb, ne-eqb, not-true}
 use Rattle.quorum.specs.Sets.{member, used, holds, shares, within, join, minus, remove, full}
 use Rattle.quorum.proofs.Tests.{same-test, and-left, and-right, and-both, by-cases, clash}
 
@@ -144,7 +145,19 @@ within-member (suc i) zero a l e = let h : a ≡ 0 = omega arith in clash e (rw 
 within-member (suc i) (suc n) a l e =
     let h : a / 2 < 2 ^ n = omega arith in let r = within-member i n (a / 2) h (sym (member-suc a i) ∙ e) in omega arith
 
+-- and one that has no others is below 2 ^ n
+pub member-within : (n a : ℕ) → ((i : ℕ) → member a i ≡ true → i < n) → a < 2 ^ n
+member-within zero a h =
+    by-cases (λ (b : Bool). eqb a 0 ≡ b → a < 1) (eqb a 0) (λ _ e. let z = eqb-true a 0 e in omega arith)
+    (λ _ e. let m = has-member a (eqb-false a 0 e) in absurd (not-suc-le-zero (h (m .0) (m .1)))) refl
+member-within (suc n) a h =
+    let r = member-within n (a / 2) (λ i e. let l = h (suc i) (member-suc a i ∙ e) in omega arith) in omega arith
+
 -- ---- the tests on sets, by members
+pub within-members : (n a : ℕ) → (within n a ≡ true) ↔ ((i : ℕ) → member a i ≡ true → i < n)
+unfolding within
+within-members n a = (λ w i. within-member i n a (ltb-true a (2 ^ n) w), λ h. lt-ltb a (2 ^ n) (member-within n a h))
+
 pub holds-member : (a b : ℕ) → holds a b ≡ true → (i : ℕ) → member b i ≡ true → member a i ≡ true
 unfolding holds
 holds-member a b e i h = and-left (member a i) (member b i) (sym (member-and i a b) ∙ ap (λ x. member x i) (eqb-true _ _ e) ∙ h)
@@ -154,22 +167,28 @@ unfolding holds
 member-holds a b h =
     eq-eqb _ _ (same-members _ _ (λ i. member-and i a b ∙ same-test _ _ (and-right (member a i) (member b i)) (λ e. and-both _ _ (h i e) e)))
 
-pub shares-member : (a b : ℕ) → shares a b ≡ true → (i : ℕ) × (member a i ≡ true) × (member b i ≡ true)
+shares-member : (a b : ℕ) → shares a b ≡ true → (i : ℕ) × (member a i ≡ true) × (member b i ≡ true)
 unfolding shares
 shares-member a b e =
     let r = has-member (bitAnd a b) (eqb-false _ _ (not-true _ e)) in
     let h : (member a (r .0) && member b (r .0)) ≡ true = sym (member-and (r .0) a b) ∙ r .1 in
     (r .0, and-left _ _ h, and-right (member a (r .0)) _ h)
 
-pub member-shares : (a b i : ℕ) → member a i ≡ true → member b i ≡ true → shares a b ≡ true
+member-shares : (a b i : ℕ) → member a i ≡ true → member b i ≡ true → shares a b ≡ true
 unfolding shares
 member-shares a b i p q =
     by-cases (λ (t : Bool). eqb (bitAnd a b) 0 ≡ t → not t ≡ true) (eqb (bitAnd a b) 0)
     (λ _ e. clash (member-and i a b ∙ and-both _ _ p q) (ap (λ x. member x i) (eqb-true _ _ e) ∙ member-empty i)) (λ _ _. refl) refl
 
-pub used-member : (a : ℕ) → used a ≡ true → (i : ℕ) × (member a i ≡ true)
+pub shares-members : (a b : ℕ) → (shares a b ≡ true) ↔ ((i : ℕ) × (member a i ≡ true) × (member b i ≡ true))
+shares-members a b = (shares-member a b, λ s. member-shares a b (s .0) (s .1) (s .2))
+
+pub used-member : (a : ℕ) → (used a ≡ true) ↔ ((i : ℕ) × (member a i ≡ true))
 unfolding used
-used-member a e = has-member a (eqb-false _ _ (not-true _ e))
+used-member a = (
+  λ e. has-member a (eqb-false _ _ (not-true _ e)),
+  λ m. ap not (ne-eqb a 0 (λ e. clash (m .1) (ap (λ x. member x (m .0)) e ∙ member-empty (m .0)))),
+)
 
 pub member-join : (a i k : ℕ) → k < 16 → member (join a k) i ≡ (member a i || eqb i k)
 unfolding join

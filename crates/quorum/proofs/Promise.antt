@@ -1,24 +1,21 @@
 -- The crate keeps its promise.
-use mathlib.Core.Path.{_≡_, refl, sym, ap, _∙_}
-use mathlib.Core.Bool.{Bool, true, false, not, cond, _&&_, _||_}
+use mathlib.Core.Path.{_≡_, refl, _∙_}
+use mathlib.Core.Bool.{Bool, true, false}
 use mathlib.Core.List.{List}
 use mathlib.Core.Logic.{_↔_}
-use Prim.Native.Nat.{ℕ, zero, suc, _+_, _≤_, _<_, _^_}
-use native.Mathlib.Nat.{not-suc-le-zero}
+use Prim.Native.Nat.{ℕ, _+_, _≤_, _^_}
 use native.Mathlib.Omega.{arith}
 use lib.ListN.{length}
-use lib.Dec.{ltb, eqb}
 use lib.Pow.{pow-pos, pow-mono}
-use borrow.Author.Tests.{ltb-true, lt-ltb, eqb-true, eqb-false, ne-eqb, not-true}
+use borrow.Author.Tests.{ltb-true, lt-ltb, ne-eqb}
 use Rattle.quorum.specs.Tests.{anyBelow}
-use Rattle.quorum.specs.Sets.{member, used, holds, shares, within, remove, full}
+use Rattle.quorum.specs.Sets.{member, used, within, remove, full}
 use Rattle.quorum.specs.Configurations.{setAt, readSet, writeSet, valid, holdsPlace, holdsRead, holdsWrite, firstPlace, firstRead, firstWrite}
-use Rattle.quorum.specs.Promise.{Promise, Some, _⊆_, LiesIn, FirstIn}
-use Rattle.quorum.specs.declared.Place.{Place}
-use Rattle.quorum.specs.declared.Place.the-variants.{At, Nowhere}
-use Rattle.quorum.proofs.Tests.{clash, by-cases, same-test, any-below, below-any, none-below}
-use Rattle.quorum.proofs.Members.{member-empty, member-join, member-minus, member-remove, member-full, same-members, holds-member, member-holds, shares-member, member-shares, used-member, within-member, within-join, within-minus}
-use Rattle.quorum.proofs.Validity.{Side, Valid, valid-facts, first-used, place-lies, lies-place, first-found, first-nowhere}
+use Rattle.quorum.specs.Promise.{Promise, Some, _⊆_, LiesIn, FirstIn, Side}
+use Rattle.quorum.specs.declared.Place.the-variants.{At}
+use Rattle.quorum.proofs.Tests.{clash, same-test, any-below, below-any}
+use Rattle.quorum.proofs.Members.{member-empty, member-join, member-minus, member-remove, member-full, same-members, holds-member, member-holds, shares-members, used-member, within-members, within-join, within-minus}
+use Rattle.quorum.proofs.Validity.{valid-facts, facts-valid, first-used, place-lies, lies-place, first-found, first-nowhere}
 
 -- a test that cannot pass fails
 fails : (b : Bool) → (b ≡ true → ⊥) → b ≡ false
@@ -43,13 +40,13 @@ more side a b s e =
 -- a used set has a member, and the empty set has none
 none : (side : ℕ → ℕ) → anyBelow (holdsPlace side 0) 8 ≡ false
 none side =
-    fails _ (λ e. let h = held side 0 .0 e in let m = used-member (side (h .0)) (h .2 .0) in clash (h .2 .1 (m .0) (m .1)) (member-empty (m .0)))
+    fails _ (λ e. let h = held side 0 .0 e in let m = used-member (side (h .0)) .0 (h .2 .0) in clash (h .2 .1 (m .0) (m .1)) (member-empty (m .0)))
 
 -- all of the n stations hold the first set of a valid side
 whole : (n : ℕ) (side : ℕ → ℕ) → n ≤ 16 → Side n side → anyBelow (holdsPlace side (full n)) 8 ≡ true
 unfolding within
 whole n side l s =
-    held side (full n) .1 (0, omega arith, (first-used n side s, λ i m. member-full n i l ∙ lt-ltb i n (within-member i n (side 0) (ltb-true _ _ (s .inRange 0 (omega arith))) m)))
+    held side (full n) .1 (0, omega arith, (first-used n side s, λ i m. member-full n i l ∙ lt-ltb i n (s .inRange 0 (omega arith) i m)))
 
 meeting : (n : ℕ) (c : List ℕ) (r w : ℕ) → valid n c ≡ true → holdsRead c r ≡ true → holdsWrite c w ≡ true
     → Some n (λ i. (member r i ≡ true) × (member w i ≡ true))
@@ -58,9 +55,9 @@ meeting n c r w v hr hw =
     let f = valid-facts n c v in
     let x = held (readSet c) r .0 hr in
     let y = held (writeSet c) w .0 hw in
-    let m = shares-member (readSet c (x .0)) (writeSet c (y .0)) (f .meet (x .0) (y .0) (x .1) (y .1) (x .2 .0) (y .2 .0)) in (
+    let m = f .meet (x .0) (y .0) (x .1) (y .1) (x .2 .0) (y .2 .0) in (
       m .0,
-      within-member (m .0) n (readSet c (x .0)) (ltb-true _ _ (f .reads .inRange (x .0) (x .1))) (m .1),
+      f .reads .inRange (x .0) (x .1) (m .0) (m .1),
       (x .2 .1 (m .0) (m .1), y .2 .1 (m .0) (m .2)),
     )
 
@@ -99,6 +96,7 @@ promise =
       first-write = λ c. first-in (writeSet c);
       no-first-read = λ c set. first-nowhere (holdsPlace (readSet c) set) 8;
       no-first-write = λ c set. first-nowhere (holdsPlace (writeSet c) set) 8;
+      valid-exactly = λ n c. (valid-facts n c, facts-valid n c);
       valid-stations = λ n c v. let f = valid-facts n c v in (f .positive, f .small);
       valid-length = λ n c v. valid-facts n c v .long;
       short-read = λ c set h. short (readSet c) set (λ k. no-set c k h);
@@ -108,10 +106,12 @@ promise =
       member-minus = λ a b i. member-minus i a b;
       member-remove = λ a i k. member-remove i k a;
       member-full = member-full;
+      used-member = used-member;
       same-members = λ a b p q. same-members a b (λ i. same-test _ _ (p i) (q i));
       holds-members = λ a b. (holds-member a b, member-holds a b);
-      shares-member = λ a b. (shares-member a b, λ s. member-shares a b (s .0) (s .1) (s .2));
-      within-member = λ n a i w m. within-member i n a (ltb-true _ _ w) m;
+      shares-member = shares-members;
+      within-member = λ n a i w. within-members n a .0 w i;
+      member-within = λ n a. within-members n a .1;
       within-empty = λ n. lt-ltb 0 (2 ^ n) (pow-pos n);
       within-join = within-join;
       within-minus = within-minus;

@@ -1,38 +1,22 @@
 -- A valid configuration, as facts about its places, and the places of a side that a set holds.
 use mathlib.Core.Path.{_≡_, refl, sym, ap, _∙_}
-use mathlib.Core.Bool.{Bool, true, false, not, cond, _&&_, _||_}
-use mathlib.Core.List.{List, [], _∷_}
+use mathlib.Core.Bool.{Bool, true, false, not, cond, _||_}
+use mathlib.Core.List.{List}
 use mathlib.Core.Logic.{_↔_, _⊎_, inl, inr, ⊎-elim}
-use Prim.Native.Nat.{ℕ, zero, suc, _+_, _*_, _≤_, _<_}
+use Prim.Native.Nat.{ℕ, zero, suc, _+_, _≤_, _<_}
 use native.Mathlib.Nat.{not-suc-le-zero, le-antisymm}
 use native.Mathlib.Numerals.{add-one}
 use native.Mathlib.Omega.{arith}
 use lib.ListN.{length}
-use lib.Dec.{leb, eqb}
+use lib.Dec.{eqb}
 use borrow.Author.Tests.{leb-true, le-leb, eqb-true, eqb-false, eq-eqb, not-true}
-use Rattle.quorum.specs.Tests.{all, allBelow, anyBelow}
-use Rattle.quorum.specs.Bytes.{number}
-use Rattle.quorum.specs.Sets.{member, used, holds, shares, within}
-use Rattle.quorum.specs.Configurations.{setAt, readSet, writeSet, usedFirst, someUsed, allWithin, sharesAll, allShare, validity, valid, holdsPlace, firstPlace, orElse}
-use Rattle.quorum.specs.Promise.{Some, _⊆_, LiesIn, FirstIn}
-use Rattle.quorum.specs.declared.Place.{Place}
+use Rattle.quorum.specs.Tests.{anyBelow}
+use Rattle.quorum.specs.Sets.{used}
+use Rattle.quorum.specs.Configurations.{readSet, writeSet, usedFirst, someUsed, allWithin, sharesAll, allShare, validity, valid, holdsPlace, firstPlace, orElse}
+use Rattle.quorum.specs.Promise.{LiesIn, Side, Valid}
 use Rattle.quorum.specs.declared.Place.the-variants.{At, Nowhere}
-use Rattle.quorum.proofs.Tests.{clash, by-cases, and-left, and-right, and-both, implies, implied, or-cases, AllTrue, all-true, true-all, all-below, below-all, any-below, below-any, below-suc}
-use Rattle.quorum.proofs.Members.{holds-member, member-holds}
-
--- what the tests of one side say
-pub record Side (n : ℕ) (side : ℕ → ℕ) : Type 0 where
-  pub packed : (k : ℕ) → k < 7 → used (side (suc k)) ≡ true → used (side k) ≡ true
-  pub some : Some 8 (λ k. used (side k) ≡ true)
-  pub inRange : (k : ℕ) → k < 8 → within n (side k) ≡ true
-
-pub record Valid (n : ℕ) (c : List ℕ) : Type 0 where
-  pub positive : 1 ≤ n
-  pub small : n ≤ 16
-  pub long : length c ≡ 32
-  pub reads : Side n (readSet c)
-  pub writes : Side n (writeSet c)
-  pub meet : (i j : ℕ) → i < 8 → j < 8 → used (readSet c i) ≡ true → used (writeSet c j) ≡ true → shares (readSet c i) (writeSet c j) ≡ true
+use Rattle.quorum.proofs.Tests.{clash, by-cases, and-left, and-right, and-both, implies, implied, or-cases, all-true, true-all, all-below, below-all, any-below, below-any, below-suc}
+use Rattle.quorum.proofs.Members.{holds-member, member-holds, shares-members, within-members}
 
 or-swap : (a b : Bool) → (a || not b) ≡ true → b ≡ true → a ≡ true
 or-swap a b e h = or-cases a (not b) e (λ p. p) (λ q. clash h (not-true b q))
@@ -42,14 +26,14 @@ swap-or true b h = refl
 swap-or false true h = h refl
 swap-or false false h = refl
 
--- the three tests of a side, and their facts
+-- ---- the tests of a side and of a configuration, and their facts
 side-facts : (n : ℕ) (side : ℕ → ℕ) → usedFirst side ≡ true → someUsed side ≡ true → allWithin n side ≡ true → Side n side
 unfolding usedFirst someUsed allWithin
 side-facts n side p q r =
     record {
       packed = λ k l. or-swap _ _ (all-below _ 7 p k l);
       some = any-below _ 8 q;
-      inRange = λ k l. all-below _ 8 r k l;
+      inRange = λ k l. within-members n (side k) .0 (all-below _ 8 r k l);
     }
 
 facts-side : (n : ℕ) (side : ℕ → ℕ) → Side n side → (usedFirst side ≡ true) × (someUsed side ≡ true) × (allWithin n side ≡ true)
@@ -57,7 +41,7 @@ unfolding usedFirst someUsed allWithin
 facts-side n side s = (
   below-all _ 7 (λ k l. swap-or _ _ (s .packed k l)),
   below-any _ 8 (s .some .0) (s .some .1) (s .some .2),
-  below-all _ 8 (λ k l. s .inRange k l),
+  below-all _ 8 (λ k l. within-members n (side k) .1 (s .inRange k l)),
 )
 
 pub valid-facts : (n : ℕ) (c : List ℕ) → valid n c ≡ true → Valid n c
@@ -72,7 +56,8 @@ valid-facts n c e =
       long = eqb-true _ _ (t .1 .1 .0);
       reads = side-facts n (readSet c) (u .0) (u .1 .1 .0) (v .0);
       writes = side-facts n (writeSet c) (u .1 .0) (u .1 .1 .1 .0) (v .1 .0);
-      meet = λ i j l m p q. implies _ _ (all-below _ 8 (implies _ _ (all-below _ 8 (v .1 .1 .0) i l) p) j m) q;
+      meet = λ i j l m p q. shares-members (readSet c i) (writeSet c j) .0
+          (implies _ _ (all-below _ 8 (implies _ _ (all-below _ 8 (v .1 .1 .0) i l) p) j m) q);
     }
 
 pub facts-valid : (n : ℕ) (c : List ℕ) → Valid n c → valid n c ≡ true
@@ -98,7 +83,7 @@ facts-valid n c v =
                     r .2,
                     (
                       w .2,
-                      (below-all _ 8 (λ i l. implied _ _ (λ p. below-all _ 8 (λ j m. implied _ _ (v .meet i j l m p)))), tt),
+                      (below-all _ 8 (λ i l. implied _ _ (λ p. below-all _ 8 (λ j m. implied _ _ (λ q. shares-members (readSet c i) (writeSet c j) .1 (v .meet i j l m p q))))), tt),
                     ),
                   ),
                 ),

@@ -15,7 +15,8 @@ use Rattle.quorum.specs.declared.Place.the-variants.{At, Nowhere}
 unfoldable pub setAt : List ℕ → ℕ → ℕ
 setAt c place = cond (eqb (length c) 32) (number c (2 * place) 2) 0
 
--- the sets of the two sides, by their places 0 to 7: the read and write quorums of source 000
+-- the sets of the two sides, by their places: the read and write quorums of source 000. Nobody asks beyond place 7 (there
+-- `readSet` would run on into the write sets, and `writeSet` gives 0).
 unfoldable pub readSet : List ℕ → ℕ → ℕ
 readSet c k = setAt c k
 
@@ -32,7 +33,7 @@ someUsed side = anyBelow (λ k. used (side k)) 8
 unfoldable pub allWithin : ℕ → (ℕ → ℕ) → Bool
 allWithin n side = allBelow (λ k. within n (side k)) 8
 
--- the set shares a station with every set of the side
+-- the set shares a station with every used set of the side
 unfoldable pub sharesAll : (ℕ → ℕ) → ℕ → Bool
 sharesAll side set = allBelow (λ k. not (used (side k)) || shares set (side k)) 8
 
@@ -40,8 +41,9 @@ sharesAll side set = allBelow (λ k. not (used (side k)) || shares set (side k))
 unfoldable pub allShare : (ℕ → ℕ) → (ℕ → ℕ) → Bool
 allShare reads writes = allBelow (λ k. not (used (reads k)) || sharesAll writes (reads k)) 8
 
--- "It is valid if each side has a used place, no set names a station n or above, and every read set shares a station
--- with every write set. Repeated sets are allowed. A list not 32 bytes long is not valid." A table has 1 to 16 stations.
+-- "It is valid if each side has a used place, no set names a station n or above, and every read set shares a station with every
+-- write set (source 000, section 3). Repeated sets are allowed. A list not 32 bytes long is not valid." Two clauses come from the
+-- sentences before that one: there are 1 to 16 stations, and used places come first on each side.
 unfoldable pub validity : ℕ → List ℕ → List Bool
 validity n c =
     leb 1 n
@@ -70,6 +72,7 @@ holdsRead c set = anyBelow (holdsPlace (readSet c) set) 8
 unfoldable pub holdsWrite : List ℕ → ℕ → Bool
 holdsWrite c set = anyBelow (holdsPlace (writeSet c) set) 8
 
+-- ---- the first place held, for a caller that is told which one it is; "heard" needs only whether there is one
 -- the first of two answers that is a place
 unfoldable pub orElse : Place → Place → Place
 orElse (At k) other = At k

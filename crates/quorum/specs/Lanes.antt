@@ -1,5 +1,5 @@
 -- How the code tests validity: lane j has the read set and the write set of place j, and all eight lanes are tested alike.
--- Private to the crate: a reader needs `valid`, to which `is_valid` is proved equal.
+-- Not for the crates above: a reader needs `valid`, to which `is_valid` is proved equal.
 use mathlib.Core.Bool.{Bool, not, _&&_, _||_}
 use mathlib.Core.List.{List}
 use Prim.Native.Nat.{ℕ, _+_}
@@ -17,7 +17,7 @@ pairOk a b = not (used a) || not (used b) || shares a b
 unfoldable pub gapOk : List ℕ → ℕ → Bool
 gapOk c k = used (setAt c k) || not (used (setAt c (k + 1))) || eqb k 7
 
--- the read set shares a station with every used write set
+-- the read set is unused, or shares a station with every used write set
 unfoldable pub rowOk : List ℕ → ℕ → Bool
 rowOk c read = allBelow (λ k. pairOk read (setAt c (8 + k))) 8
 

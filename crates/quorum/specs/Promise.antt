@@ -1,9 +1,10 @@
--- What the crate promises of its definitions. The crates above rely on this record and on the contracts alone.
+-- What the crate promises of its definitions of sets and configurations. The crates above rely on this record and on the
+-- contracts alone for both. `Tests` and `Bytes` are vocabulary that they share with this crate, and use as it is defined.
 use mathlib.Core.Path.{_≡_}
 use mathlib.Core.Bool.{true, false, not, _&&_, _||_}
 use mathlib.Core.List.{List}
 use mathlib.Core.Logic.{_↔_}
-use Prim.Native.Nat.{ℕ, _≤_, _<_}
+use Prim.Native.Nat.{ℕ, suc, _≤_, _<_}
 use lib.Dec.{ltb, eqb}
 use lib.ListN.{length}
 use Rattle.quorum.specs.Sets.{member, used, holds, shares, within, join, minus, remove, full}
@@ -27,6 +28,23 @@ LiesIn side set k = (used (side k) ≡ true) × (side k ⊆ set)
 abbrev pub FirstIn : (ℕ → ℕ) → ℕ → ℕ → Type 0
 FirstIn side set k = (k < 8) × LiesIn side set k × ((j : ℕ) → j < k → LiesIn side set j → ⊥)
 
+-- ---- a configuration of n stations, as source 000, section 3, has it: "each of c.read and c.write is a nonempty collection of
+-- subsets of S, and .. every element of c.read has a nonempty intersection with every element of c.write"
+-- one side: a zero set is an unused place, used places come first, one is used, and the sets name stations below n
+pub record Side (n : ℕ) (side : ℕ → ℕ) : Type 0 where
+  pub packed : (k : ℕ) → k < 7 → used (side (suc k)) ≡ true → used (side k) ≡ true
+  pub some : Some 8 (λ k. used (side k) ≡ true)
+  pub inRange : (k : ℕ) → k < 8 → (i : ℕ) → member (side k) i ≡ true → i < n
+
+pub record Valid (n : ℕ) (c : List ℕ) : Type 0 where
+  pub positive : 1 ≤ n
+  pub small : n ≤ 16
+  pub long : length c ≡ 32
+  pub reads : Side n (readSet c)
+  pub writes : Side n (writeSet c)
+  pub meet : (j k : ℕ) → j < 8 → k < 8 → used (readSet c j) ≡ true → used (writeSet c k) ≡ true
+      → (i : ℕ) × (member (readSet c j) i ≡ true) × (member (writeSet c k) i ≡ true)
+
 pub record Promise : Type 0 where
   -- ---- quorums (source 000, section 3)
   -- a set that holds a read set and a set that holds a write set share a station, one of the n
@@ -49,6 +67,7 @@ pub record Promise : Type 0 where
   pub no-first-read : (c : List ℕ) (set : ℕ) → (firstRead c set ≡ Nowhere) ↔ (holdsRead c set ≡ false)
   pub no-first-write : (c : List ℕ) (set : ℕ) → (firstWrite c set ≡ Nowhere) ↔ (holdsWrite c set ≡ false)
   -- ---- validity
+  pub valid-exactly : (n : ℕ) (c : List ℕ) → (valid n c ≡ true) ↔ Valid n c
   pub valid-stations : (n : ℕ) (c : List ℕ) → valid n c ≡ true → (1 ≤ n) × (n ≤ 16)
   pub valid-length : (n : ℕ) (c : List ℕ) → valid n c ≡ true → length c ≡ 32
   -- a list of another length has no sets
@@ -60,12 +79,14 @@ pub record Promise : Type 0 where
   pub member-minus : (a b i : ℕ) → member (minus a b) i ≡ (member a i && not (member b i))
   pub member-remove : (a i k : ℕ) → member (remove a k) i ≡ (member a i && not (eqb i k))
   pub member-full : (n i : ℕ) → n ≤ 16 → member (full n) i ≡ ltb i n
-  -- sets with the same members are equal
+  -- a set is used exactly if it has a member, and sets with the same members are equal
+  pub used-member : (a : ℕ) → (used a ≡ true) ↔ ((i : ℕ) × (member a i ≡ true))
   pub same-members : (a b : ℕ) → a ⊆ b → b ⊆ a → a ≡ b
   pub holds-members : (a b : ℕ) → (holds a b ≡ true) ↔ (b ⊆ a)
   pub shares-member : (a b : ℕ) → (shares a b ≡ true) ↔ ((i : ℕ) × (member a i ≡ true) × (member b i ≡ true))
   -- ---- stations below n
   pub within-member : (n a i : ℕ) → within n a ≡ true → member a i ≡ true → i < n
+  pub member-within : (n a : ℕ) → ((i : ℕ) → member a i ≡ true → i < n) → within n a ≡ true
   pub within-empty : (n : ℕ) → within n 0 ≡ true
   pub within-join : (n a k : ℕ) → n ≤ 16 → within n a ≡ true → k < n → within n (join a k) ≡ true
   pub within-minus : (n a b : ℕ) → within n a ≡ true → within n (minus a b) ≡ true

@@ -1,10 +1,10 @@
 -- The table follows the book: what holds of a table's view and the book after every call, and that every call keeps it.
-use mathlib.Core.Path.{_≡_, refl, sym, ap, _∙_}
-use mathlib.Core.Bool.{Bool, true, false, not, cond, _&&_}
-use mathlib.Core.List.{List, [], _∷_}
-use Prim.Native.Nat.{ℕ, zero, suc, _+_, _≤_, _<_}
+use mathlib.Core.Path.{_≡_, refl, _∙_}
+use mathlib.Core.Bool.{Bool, true, false, _&&_}
+use mathlib.Core.List.{List}
+use Prim.Native.Nat.{ℕ, _+_, _≤_, _<_}
 use native.Mathlib.Omega.{arith}
-use lib.ListN.{length, getD, set, replicate, length-set, length-replicate, getD-replicate}
+use lib.ListN.{length, length-set, length-replicate, getD-replicate}
 use lib.Seq.{getD-set-same, getD-set-other}
 use lib.Dec.{eqb}
 use borrow.Author.Tests.{eqb-true, eqb-false}
@@ -13,7 +13,7 @@ use Rattle.quorum.specs.Configurations.{valid, holdsWrite}
 use Rattle.quorum.proofs.Tests.{clash, by-cases, and-left, and-right}
 use Rattle.layout.specs.Fields.{Copy, Kind}
 use Rattle.layout.specs.Fields.{none as noRound, read as readRound, write as writeRound, change as changeRound}
-use Rattle.layout.specs.View.{State, view}
+use Rattle.layout.specs.View.{State}
 use Rattle.rules.specs.Calls.{Call, lay, openRead, openWrite, openChange, poll, put, commit, abandon, link, reach}
 use Rattle.rules.specs.Newest.{own, foundByVersion, foundByGeneration, heard}
 use Rattle.rules.specs.Rules.{idle, written}

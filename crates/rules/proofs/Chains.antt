@@ -1,21 +1,19 @@
--- Laws of chains of refusals: what the number of a chain says of its tests, and back; and what a call that is done has passed.
+-- Laws of chains of refusals: what the number of a chain says of its tests, and back; and that a call is done exactly if it is allowed.
 use mathlib.Core.Path.{_≡_, refl, sym, ap, _∙_}
 use mathlib.Core.Bool.{Bool, true, false, not, cond, _&&_, _||_}
 use mathlib.Core.List.{[], _∷_}
-use mathlib.Core.Logic.{_↔_, _⊎_, inl, inr}
+use mathlib.Core.Logic.{_↔_, _⊎_, inl, inr, ⊎-elim}
 use Prim.Native.Nat.{ℕ, zero, suc, _≤_, _<_}
 use native.Mathlib.Omega.{arith}
 use lib.ListN.{length}
 use lib.Dec.{ltb, leb, eqb}
-use borrow.Author.Tests.{ltb-true, leb-true, eqb-true, eqb-false, not-true, not-false}
-use Rattle.quorum.specs.Sets.{member}
-use Rattle.quorum.specs.Configurations.{valid}
-use Rattle.quorum.proofs.Tests.{clash, and-left, and-right, or-cases, or-false-left, or-false-right}
+use borrow.Author.Tests.{ltb-true, lt-ltb, leb-true, le-leb, eqb-true, eqb-false, eq-eqb, not-true, not-false}
+use Rattle.quorum.proofs.Tests.{clash, and-left, and-right, and-both, or-left, or-right, or-cases, or-false-left, or-false-right}
 use Rattle.layout.specs.Fields.{Kind, none, read, write, change}
 use Rattle.layout.specs.View.{State}
 use Rattle.rules.specs.Calls.{Call, lay, openRead, openWrite, openChange, poll, put, commit, abandon, link, reach}
-use Rattle.rules.specs.Newest.{heard}
-use Rattle.rules.specs.Rules.{Chain, first, refusals, numberOf, idle, noStation, wrongPut, spent, spentAtPut, written}
+use Rattle.rules.specs.Rules.{Chain, first, refusals, numberOf, idle}
+use Rattle.rules.specs.Done.{Allowed}
 
 -- ---- the places of a chain
 -- the number at a place; past the end it is 0, done
@@ -101,8 +99,8 @@ pub exactly : (l : Chain) → proper l ≡ true → (i : ℕ) → (first l ≡ n
 exactly l p i = (says l p i, gives l i)
 
 -- a number of 0 means that every test failed
-pub passed : (l : Chain) → proper l ≡ true → first l ≡ 0 → Passed l
-passed l p e = says l p (length l) (e ∙ sym (end l))
+pub passed : (l : Chain) → proper l ≡ true → (first l ≡ 0) ↔ Passed l
+passed l p = (λ e. says l p (length l) (e ∙ sym (end l)), λ a. gives l (length l) a ∙ end l)
   where
     end : (l : Chain) → numberAt l (length l) ≡ 0
     end [] = refl
@@ -131,27 +129,7 @@ proper-refusals v abandon = refl
 proper-refusals v (link s state) = refl
 proper-refusals v (reach i) = refl
 
--- ---- what a call with number 0 has passed
--- the tests as facts, in the order of the numbers
-abbrev pub Allowed : State → Call → Type 0
-Allowed v (lay n m value config) =
-    ((1 ≤ n) × (n ≤ 16) × (1 ≤ m) × (m ≤ 32)) × (v .fits n m ≡ true) × (valid n config ≡ true)
-Allowed v (openRead i) = (v .isSound ≡ true) × (i < v .m) × (v .round .kind ≡ none)
-Allowed v (openWrite i value) = (v .isSound ≡ true) × (i < v .m) × (v .round .kind ≡ none)
-Allowed v (openChange i target) = (v .isSound ≡ true) × (i < v .m) × (valid (v .n) target ≡ true) × (v .round .kind ≡ none)
-Allowed v (poll s) =
-    (v .isSound ≡ true) × (s < v .n) × (v .round .kind ≡ none → ⊥) × (member (v .off) s ≡ false)
-    × ((v .round .dataPuts ≡ 0) × (v .round .configPuts ≡ 0))
-Allowed v (put s sort) =
-    (v .isSound ≡ true) × ((s < v .n) × ((sort ≡ 1) ⊎ (sort ≡ 2))) × (v .round .kind ≡ none → ⊥) × (member (v .off) s ≡ false)
-    × (heard v ≡ true) × (wrongPut (v .round .kind) sort ≡ false) × (spentAtPut v (v .round .kind) sort ≡ false)
-Allowed v commit =
-    (v .isSound ≡ true) × (v .round .kind ≡ none → ⊥) × (heard v ≡ true) × (spent v (v .round .kind) ≡ false)
-    × (written v (v .round .kind) ≡ true)
-Allowed v abandon = (v .isSound ≡ true) × (v .round .kind ≡ none → ⊥)
-Allowed v (link s state) = (v .isSound ≡ true) × ((s < v .n) × ((state ≡ 0) ⊎ (state ≡ 1)))
-Allowed v (reach i) = (v .isSound ≡ true) × (i < v .m)
-
+-- ---- a call has number 0 exactly if it is allowed
 pub idle-none : (k : Kind) → idle k ≡ true → k ≡ none
 idle-none none e = refl
 idle-none read e = clash refl (sym e)
@@ -167,65 +145,108 @@ open-busy change h = refl
 pub busy-open : (k : Kind) → idle k ≡ false → k ≡ none → ⊥
 busy-open k e h = clash (ap idle h) e
 
-below : (a b : ℕ) → not (ltb a b) ≡ false → a < b
-below a b e = ltb-true a b (not-false (ltb a b) e)
+-- tests that fail, and the facts that they leave
+below : (a b : ℕ) → (not (ltb a b) ≡ false) ↔ (a < b)
+below a b = (λ e. ltb-true a b (not-false (ltb a b) e), λ l. ap not (lt-ltb a b l))
 
-one-of : (a x y : ℕ) → not (eqb a x || eqb a y) ≡ false → (a ≡ x) ⊎ (a ≡ y)
-one-of a x y e = or-cases (eqb a x) (eqb a y) (not-false _ e) (λ h. inl (eqb-true a x h)) (λ h. inr (eqb-true a y h))
+no-round : (k : Kind) → (not (idle k) ≡ false) ↔ (k ≡ none)
+no-round k = (λ e. idle-none k (not-false _ e), λ h. ap (λ x. not (idle x)) h)
 
-pub allowed : (v : State) (c : Call) → numberOf v c ≡ 0 → Allowed v c
-unfolding refusals numberOf
-allowed v c e = facts c (passed (refusals v c) (proper-refusals v c) e)
-  where
-    sized : (n m : ℕ) → (leb 1 n && leb n 16 && leb 1 m && leb m 32) ≡ true → (1 ≤ n) × (n ≤ 16) × (1 ≤ m) × (m ≤ 32)
-    sized n m h =
-        let three = and-left _ (leb m 32) h in
-        let two = and-left _ (leb 1 m) three in (
-          leb-true 1 n (and-left _ (leb n 16) two),
-          leb-true n 16 (and-right (leb 1 n) _ two),
-          leb-true 1 m (and-right (leb 1 n && leb n 16) _ three),
-          leb-true m 32 (and-right (leb 1 n && leb n 16 && leb 1 m) _ h),
-        )
+a-round : (k : Kind) → (idle k ≡ false) ↔ (k ≡ none → ⊥)
+a-round k = (busy-open k, open-busy k)
 
-    empty : (a b : ℕ) → (eqb a 0 && eqb b 0) ≡ true → (a ≡ 0) × (b ≡ 0)
-    empty a b h = (eqb-true a 0 (and-left _ (eqb b 0) h), eqb-true b 0 (and-right (eqb a 0) _ h))
+one-of : (a x y : ℕ) → (not (eqb a x || eqb a y) ≡ false) ↔ ((a ≡ x) ⊎ (a ≡ y))
+one-of a x y = (
+  λ e. or-cases (eqb a x) (eqb a y) (not-false _ e) (λ h. inl (eqb-true a x h)) (λ h. inr (eqb-true a y h)),
+  λ s. ap not (⊎-elim (λ h. or-left (eqb a x) (eqb a y) (eq-eqb a x h)) (λ h. or-right (eqb a x) (eqb a y) (eq-eqb a y h)) s),
+)
 
-    at-station : (s a x y : ℕ) → (noStation v s || not (eqb a x || eqb a y)) ≡ false → (s < v .n) × ((a ≡ x) ⊎ (a ≡ y))
-    at-station s a x y h = (below s (v .n) (or-false-left _ _ h), one-of a x y (or-false-right (noStation v s) _ h))
+at-station : (n s a x y : ℕ) → ((not (ltb s n) || not (eqb a x || eqb a y)) ≡ false) ↔ ((s < n) × ((a ≡ x) ⊎ (a ≡ y)))
+at-station n s a x y = (
+  λ e. (below s n .0 (or-false-left _ _ e), one-of a x y .0 (or-false-right (not (ltb s n)) _ e)),
+  λ h. rw (below s n .1 (h .0)) (one-of a x y .1 (h .1)),
+)
 
-    facts : (c : Call) → Passed (refusals v c) → Allowed v c
-    facts (lay n m value config) p = (sized n m (not-false _ (p .0)), not-false _ (p .1 .0), not-false _ (p .1 .1 .0))
-    facts (openRead i) p = (not-false _ (p .0), below i (v .m) (p .1 .0), idle-none _ (not-false _ (p .1 .1 .0)))
-    facts (openWrite i value) p = (not-false _ (p .0), below i (v .m) (p .1 .0), idle-none _ (not-false _ (p .1 .1 .0)))
-    facts (openChange i target) p = (
-      not-false _ (p .0),
-      below i (v .m) (p .1 .0),
-      not-false _ (p .1 .1 .0),
-      idle-none _ (not-false _ (p .1 .1 .1 .0)),
-    )
-    facts (poll s) p = (
-      not-false _ (p .0),
-      below s (v .n) (p .1 .0),
-      busy-open _ (p .1 .1 .0),
-      p .1 .1 .1 .0,
-      empty (v .round .dataPuts) (v .round .configPuts) (not-false _ (p .1 .1 .1 .1 .0)),
-    )
-    facts (put s sort) p = (
-      not-false _ (p .0),
-      at-station s sort 1 2 (p .1 .0),
-      busy-open _ (p .1 .1 .0),
-      p .1 .1 .1 .0,
-      not-false _ (p .1 .1 .1 .1 .0),
-      p .1 .1 .1 .1 .1 .0,
-      p .1 .1 .1 .1 .1 .1 .0,
-    )
-    facts commit p = (
-      not-false _ (p .0),
-      busy-open _ (p .1 .0),
-      not-false _ (p .1 .1 .0),
-      p .1 .1 .1 .0,
-      not-false _ (p .1 .1 .1 .1 .0),
-    )
-    facts abandon p = (not-false _ (p .0), busy-open _ (p .1 .0))
-    facts (link s state) p = (not-false _ (p .0), at-station s state 0 1 (p .1 .0))
-    facts (reach i) p = (not-false _ (p .0), below i (v .m) (p .1 .0))
+empty : (a b : ℕ) → (not (eqb a 0 && eqb b 0) ≡ false) ↔ ((a ≡ 0) × (b ≡ 0))
+empty a b = (
+  λ e. let h = not-false _ e in (eqb-true a 0 (and-left _ (eqb b 0) h), eqb-true b 0 (and-right (eqb a 0) _ h)),
+  λ h. ap not (and-both _ _ (eq-eqb a 0 (h .0)) (eq-eqb b 0 (h .1))),
+)
+
+sized : (n m : ℕ) → ((leb 1 n && leb n 16 && leb 1 m && leb m 32) ≡ true) ↔ ((1 ≤ n) × (n ≤ 16) × (1 ≤ m) × (m ≤ 32))
+sized n m = (
+  λ h. let three = and-left _ (leb m 32) h in
+      let two = and-left _ (leb 1 m) three in (
+        leb-true 1 n (and-left _ (leb n 16) two),
+        leb-true n 16 (and-right (leb 1 n) _ two),
+        leb-true 1 m (and-right (leb 1 n && leb n 16) _ three),
+        leb-true m 32 (and-right (leb 1 n && leb n 16 && leb 1 m) _ h),
+      ),
+  λ h. and-both _ _ (and-both _ _ (and-both _ _ (le-leb 1 n (h .0)) (le-leb n 16 (h .1))) (le-leb 1 m (h .2))) (le-leb m 32 (h .3)),
+)
+
+module _ (v : State) where
+  passed-allowed : (c : Call) → Passed (refusals v c) → Allowed v c
+  unfolding refusals
+  passed-allowed (lay n m value config) p = (sized n m .0 (not-false _ (p .0)), not-false _ (p .1 .0), not-false _ (p .1 .1 .0))
+  passed-allowed (openRead i) p = (not-false _ (p .0), below i (v .m) .0 (p .1 .0), no-round _ .0 (p .1 .1 .0))
+  passed-allowed (openWrite i value) p = (not-false _ (p .0), below i (v .m) .0 (p .1 .0), no-round _ .0 (p .1 .1 .0))
+  passed-allowed (openChange i target) p = (
+    not-false _ (p .0),
+    below i (v .m) .0 (p .1 .0),
+    not-false _ (p .1 .1 .0),
+    no-round _ .0 (p .1 .1 .1 .0),
+  )
+  passed-allowed (poll s) p = (
+    not-false _ (p .0),
+    below s (v .n) .0 (p .1 .0),
+    a-round _ .0 (p .1 .1 .0),
+    p .1 .1 .1 .0,
+    empty (v .round .dataPuts) (v .round .configPuts) .0 (p .1 .1 .1 .1 .0),
+  )
+  passed-allowed (put s sort) p = (
+    not-false _ (p .0),
+    at-station (v .n) s sort 1 2 .0 (p .1 .0),
+    a-round _ .0 (p .1 .1 .0),
+    p .1 .1 .1 .0,
+    not-false _ (p .1 .1 .1 .1 .0),
+    p .1 .1 .1 .1 .1 .0,
+    p .1 .1 .1 .1 .1 .1 .0,
+  )
+  passed-allowed commit p = (
+    not-false _ (p .0),
+    a-round _ .0 (p .1 .0),
+    not-false _ (p .1 .1 .0),
+    p .1 .1 .1 .0,
+    not-false _ (p .1 .1 .1 .1 .0),
+  )
+  passed-allowed abandon p = (not-false _ (p .0), a-round _ .0 (p .1 .0))
+  passed-allowed (link s state) p = (not-false _ (p .0), at-station (v .n) s state 0 1 .0 (p .1 .0))
+  passed-allowed (reach i) p = (not-false _ (p .0), below i (v .m) .0 (p .1 .0))
+
+  allowed-passed : (c : Call) → Allowed v c → Passed (refusals v c)
+  unfolding refusals
+  allowed-passed (lay n m value config) a = (ap not (sized n m .1 (a .0)), (ap not (a .1), (ap not (a .2), tt)))
+  allowed-passed (openRead i) a = (ap not (a .0), (below i (v .m) .1 (a .1), (no-round _ .1 (a .2), tt)))
+  allowed-passed (openWrite i value) a = (ap not (a .0), (below i (v .m) .1 (a .1), (no-round _ .1 (a .2), tt)))
+  allowed-passed (openChange i target) a = (ap not (a .0), (below i (v .m) .1 (a .1), (ap not (a .2), (no-round _ .1 (a .3), tt))))
+  allowed-passed (poll s) a = (
+    ap not (a .0),
+    (below s (v .n) .1 (a .1), (a-round _ .1 (a .2), (a .3, (empty (v .round .dataPuts) (v .round .configPuts) .1 (a .4), tt)))),
+  )
+  allowed-passed (put s sort) a = (
+    ap not (a .0),
+    (at-station (v .n) s sort 1 2 .1 (a .1), (a-round _ .1 (a .2), (a .3, (ap not (a .4), (a .5, (a .6, tt)))))),
+  )
+  allowed-passed commit a = (ap not (a .0), (a-round _ .1 (a .1), (ap not (a .2), (a .3, (ap not (a .4), tt)))))
+  allowed-passed abandon a = (ap not (a .0), (a-round _ .1 (a .1), tt))
+  allowed-passed (link s state) a = (ap not (a .0), (at-station (v .n) s state 0 1 .1 (a .1), tt))
+  allowed-passed (reach i) a = (ap not (a .0), (below i (v .m) .1 (a .1), tt))
+
+  pub allowed : (c : Call) → numberOf v c ≡ 0 → Allowed v c
+  unfolding numberOf
+  allowed c e = passed-allowed c (passed (refusals v c) (proper-refusals v c) .0 e)
+
+  pub is-done : (c : Call) → Allowed v c → numberOf v c ≡ 0
+  unfolding numberOf
+  is-done c a = passed (refusals v c) (proper-refusals v c) .1 (allowed-passed c a)

@@ -1,8 +1,8 @@
 -- The copies of one item: what holds of them after every call, and how the three kinds of commit keep it.
 use mathlib.Core.Path.{_≡_, refl}
-use mathlib.Core.Bool.{Bool, true, false, cond}
+use mathlib.Core.Bool.{Bool, true, cond}
 use mathlib.Core.List.{List}
-use Prim.Native.Nat.{ℕ, zero, suc, _+_, _≤_, _<_}
+use Prim.Native.Nat.{ℕ, _+_, _≤_, _<_}
 use native.Mathlib.Omega.{arith}
 use native.Mathlib.Nat.{not-suc-le-zero}
 use lib.Dec.{ltb}
@@ -18,7 +18,7 @@ use Rattle.rules.specs.Demand2.{Newest}
 use Rattle.rules.proofs.Newest.{heard-finds}
 use Rattle.rules.proofs.Stored.{stored}
 
--- "some write quorum of the configuration, all of whose replicas have P": the witness is a station set that holds a write set
+-- some write quorum of the configuration, all of whose replicas have P: the witness is a station set that holds a write set
 pub record Quorum (n : ℕ) (config : List ℕ) (P : ℕ → Type 0) : Type 0 where
   pub set : ℕ
   pub writable : holdsWrite config set ≡ true

@@ -31,19 +31,19 @@ both a b p q = (λ e. (p .0 (and-left a b e), q .0 (and-right a b e)), λ h. and
 -- ---- the store's tests are the conditions of source 000
 module _ (v : State) where
   -- a round that is heard has found something
-  found : heard v ≡ true → Found v
+  pub found : heard v ≡ true → Found v
   found e =
       let h = heard-finds (own v) (v .round .polled) (v .n) e in
       record { g = h .g; b = h .b; newestGeneration = h .newestGeneration; newestVersion = h .newestVersion }
 
   module _ (f : Found v) where
-    generation-found : foundByGeneration v ≡ own v (f .g)
+    pub generation-found : foundByGeneration v ≡ own v (f .g)
     generation-found = by-generation (own v) (v .round .polled) (v .n) (f .g) (f .newestGeneration)
 
-    version-found : foundByVersion v ≡ own v (f .b)
+    pub version-found : foundByVersion v ≡ own v (f .b)
     version-found = by-version (own v) (v .round .polled) (v .n) (f .b) (f .newestVersion)
 
-    is-heard : (heard v ≡ true) ↔ Heard v f
+    pub is-heard : (heard v ≡ true) ↔ Heard v f
     unfolding hears
     is-heard = rw generation-found (promise .holds-read (own v (f .g) .config) (v .round .polled))
 
@@ -53,19 +53,19 @@ module _ (v : State) where
     is-spent write = rw version-found (eqb-true _ (2 ^ 64 - 1), eq-eqb _ (2 ^ 64 - 1))
     is-spent change = rw generation-found (eqb-true _ (2 ^ 64 - 1), eq-eqb _ (2 ^ 64 - 1))
 
-    is-written : (k : Kind) → (k ≡ none → ⊥) → (written v k ≡ true) ↔ Written v f k
-    is-written none busy = absurd (busy refl)
-    is-written read busy = (λ e. tt, λ u. refl)
-    is-written write busy = rw generation-found (promise .holds-write (own v (f .g) .config) (v .round .dataPuts))
-    is-written change busy =
+    is-written : (k : Kind) → (written v k ≡ true) ↔ Written v f k
+    is-written none = (λ e. tt, λ u. refl)
+    is-written read = (λ e. tt, λ u. refl)
+    is-written write = rw generation-found (promise .holds-write (own v (f .g) .config) (v .round .dataPuts))
+    is-written change =
         rw generation-found (both _ _ (promise .holds-write (v .round .target) (v .round .dataPuts))
         (promise .holds-write (own v (f .g) .config) (v .round .configPuts)))
 
     is-unspent : (k : Kind) → (spent v k ≡ false) ↔ (Spent v f k → ⊥)
     is-unspent k = negated (spent v k) (is-spent k)
 
-    is-short : (k : Kind) → (k ≡ none → ⊥) → (written v k ≡ false) ↔ (Written v f k → ⊥)
-    is-short k busy = negated (written v k) (is-written k busy)
+    is-short : (k : Kind) → (written v k ≡ false) ↔ (Written v f k → ⊥)
+    is-short k = negated (written v k) (is-written k)
 
 -- ---- commit's number
 module _ (v : State) (isSound : v .isSound ≡ true) (busy : v .round .kind ≡ none → ⊥) where
@@ -100,9 +100,9 @@ module _ (v : State) (isSound : v .isSound ≡ true) (busy : v .round .kind ≡ 
       record {
         finished = (
           λ e. let a = at 3 .0 e in let h = not-false _ (a .0) in let f = found v h in
-              (f, is-heard v f .0 h, is-unspent v f kind .0 (a .1 .0), is-written v f kind busy .0 (not-false _ (a .1 .1 .0))),
+              (f, is-heard v f .0 h, is-unspent v f kind .0 (a .1 .0), is-written v f kind .0 (not-false _ (a .1 .1 .0))),
           λ c. let f = c .0 in
-              at 3 .1 (ap not (is-heard v f .1 (c .1)), (is-unspent v f kind .1 (c .2), (ap not (is-written v f kind busy .1 (c .3)), tt))),
+              at 3 .1 (ap not (is-heard v f .1 (c .1)), (is-unspent v f kind .1 (c .2), (ap not (is-written v f kind .1 (c .3)), tt))),
         );
         unheard = (
           λ e f. negated (heard v) (is-heard v f) .0 (not-true _ (at 0 .0 e)),
@@ -115,9 +115,9 @@ module _ (v : State) (isSound : v .isSound ≡ true) (busy : v .round .kind ≡ 
         );
         short = (
           λ e. let a = at 2 .0 e in let h = not-false _ (a .0) in let f = found v h in
-              (f, is-heard v f .0 h, is-unspent v f kind .0 (a .1 .0), is-short v f kind busy .0 (not-true _ (a .1 .1))),
+              (f, is-heard v f .0 h, is-unspent v f kind .0 (a .1 .0), is-short v f kind .0 (not-true _ (a .1 .1))),
           λ c. let f = c .0 in
-              at 2 .1 (ap not (is-heard v f .1 (c .1)), (is-unspent v f kind .1 (c .2), ap not (is-short v f kind busy .1 (c .3)))),
+              at 2 .1 (ap not (is-heard v f .1 (c .1)), (is-unspent v f kind .1 (c .2), ap not (is-short v f kind .1 (c .3)))),
         );
         noOther = one-of-four;
       }

@@ -1,34 +1,26 @@
 -- Demand 3, by induction on the list: the table follows the book.
 use mathlib.Core.Path.{_≡_, refl, sym, ap, _∙_}
-use mathlib.Core.Bool.{Bool, true, false, not, cond, _&&_}
+use mathlib.Core.Bool.{false}
 use mathlib.Core.List.{List, [], _∷_}
-use Prim.Native.Nat.{ℕ, zero, suc, _+_, _≤_, _<_}
+use Prim.Native.Nat.{ℕ, zero, suc}
 use native.Mathlib.Omega.{arith}
-use lib.Dec.{eqb}
 use Rattle.quorum.specs.Bytes.{AreBytes}
 use Rattle.quorum.proofs.Tests.{clash}
 use Rattle.layout.specs.Fields.{Kind}
 use Rattle.layout.specs.Fields.{none as noRound, read as readRound, write as writeRound, change as changeRound}
-use Rattle.layout.specs.View.{State, view}
-use Rattle.rules.specs.Calls.{Call, lay, openRead, openWrite, openChange, poll, put, commit, abandon, link, reach}
+use Rattle.layout.specs.View.{view}
+use Rattle.rules.specs.Calls.{Call, lay, commit}
 use Rattle.rules.specs.Passed.{Passable}
-use Rattle.rules.specs.Rules.{numberOf, idle}
-use Rattle.rules.specs.Figures.{figuresOf, closing}
+use Rattle.rules.specs.Rules.{idle}
+use Rattle.rules.specs.Figures.{figuresOf}
 use Rattle.rules.specs.Reply.{reply, after}
-use Rattle.rules.specs.Book.{Book, Noted, none, read, write, change, entry, step, fed}
+use Rattle.rules.specs.Book.{Book, fed}
 use Rattle.rules.specs.Demand3.{NotedItem, of-read, of-write, of-change, Agrees, OneCopy, AllPassable, Demand3}
-use Rattle.rules.specs.declared.Reply.{Reply}
-use Rattle.rules.proofs.Demand1.{refusal-changes-nothing}
+use Rattle.rules.proofs.Demand1.{refusal-changes-nothing, reply-figures}
 use Rattle.rules.proofs.Lengths.{bytes-kept}
 use Rattle.rules.proofs.Views.{follows as next-view}
 use Rattle.rules.proofs.Tested.{tested}
-use Rattle.rules.proofs.Book.{Follows, Commits, notedOf, keep, start, entry-after, figures-after}
-
--- the figures of a reply that is done
-reply-figures : (t : List ℕ) (c : Call) → reply t c .number ≡ 0
-    → (reply t c .first ≡ figuresOf (view t) c .first) × (reply t c .second ≡ figuresOf (view t) c .second) × (reply t c .third ≡ figuresOf (view t) c .third)
-unfolding reply
-reply-figures t c e = (rw e, rw e, rw e)
+use Rattle.rules.proofs.Book.{Follows, notedOf, keep, start, entry-after, figures-after}
 
 noted-item : (k : Kind) (i x : ℕ) → idle k ≡ false → NotedItem (notedOf k i x) i
 noted-item noRound i x e = clash refl e

@@ -24,17 +24,17 @@ use Rattle.rules.specs.Figures.{closing}
 use Rattle.rules.specs.After.{putCopies, done}
 use Rattle.rules.specs.Passed.{Passable}
 use Rattle.rules.specs.Reply.{reply, after}
-use Rattle.rules.proofs.Chains.{Allowed}
+use Rattle.rules.specs.Done.{Allowed}
 use Rattle.rules.proofs.Stored.{laid-length, put-length}
 use Rattle.rules.proofs.Views.{done-after, done-allowed, holds-next}
 
 -- a table after a call is what the call makes of it if it is done, or as it was
-by-number : (P : List ℕ → Type 0) (t : List ℕ) (c : Call) → (reply t c .number ≡ 0 → P (done t (view t) c)) → P t → P (after t c)
+pub by-number : (P : List ℕ → Type 0) (t : List ℕ) (c : Call) → (reply t c .number ≡ 0 → P (done t (view t) c)) → P t → P (after t c)
 unfolding reply after
 by-number P t c f h =
     by-cases (λ (b : Bool). P (cond b (done t (view t) c) t)) (eqb (numberOf (view t) c) 0) (λ e. f (eqb-true (numberOf (view t) c) 0 e)) (λ _. h)
 
-head : (t : List ℕ) → view t .isSound ≡ true → headSize ≤ length t
+pub head : (t : List ℕ) → view t .isSound ≡ true → headSize ≤ length t
 head t e = rw (sound-table t e .size) (table-head (stations t) (items t))
 
 done-length : (t : List ℕ) (c : Call) → Allowed (view t) c → length (done t (view t) c) ≡ length t

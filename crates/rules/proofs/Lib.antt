@@ -2,11 +2,14 @@ pub mod Chains
 pub mod Newest
 pub mod Demand1
 pub mod Demand2
+pub mod Done
 pub mod Stored
 pub mod States
 pub mod Views
 pub mod Kept
 pub mod Lengths
+pub mod Steps
+pub mod Twice
 pub mod Copies
 pub mod Book
 pub mod Tested

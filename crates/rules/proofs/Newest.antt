@@ -132,3 +132,29 @@ module _ (copies : ℕ → Copy) (set n : ℕ) where
       go : (o : Option ℕ) → IsNewest (λ s. copies s .generation) set n o → holdsRead (copyOr copies o .config) set ≡ true → Finds
       go none f h = clash h (promise .short-read [] set (λ z. absurd (omega arith)))
       go (some s) f h = finds s (f .station) (f .isPolled)
+
+-- ---- only the stations below n are looked at
+module _ (key key′ : ℕ → ℕ) (set : ℕ) where
+  newest-same : (n : ℕ) → ((s : ℕ) → s < n → key s ≡ key′ s) → newest key set n ≡ newest key′ set n
+  unfolding newest
+  newest-same zero e = refl
+  newest-same (suc k) e = rw (newest-same k (λ s l. e s (omega arith)), newer-same (newest key′ set k) (is-newest key′ set k))
+    where
+      newer-same : (o : Option ℕ) → IsNewest key′ set k o → newer key k o ≡ newer key′ k o
+      newer-same none h = refl
+      newer-same (some b) h = let l = h .station in rw (e b (omega arith), e k (omega arith))
+
+module _ (cs ds : ℕ → Copy) (set n : ℕ) (e : (s : ℕ) → s < n → cs s ≡ ds s) where
+  by-generation-same : byGeneration cs set n ≡ byGeneration ds set n
+  unfolding byGeneration
+  by-generation-same =
+      rw (newest-same (λ s. cs s .generation) (λ s. ds s .generation) set n (λ s l. ap (λ x. x .generation) (e s l)))
+      (go (newest (λ s. ds s .generation) set n) (is-newest (λ s. ds s .generation) set n))
+    where
+      go : (o : Option ℕ) → IsNewest (λ s. ds s .generation) set n o → copyOr cs o ≡ copyOr ds o
+      go none h = refl
+      go (some b) h = e b (h .station)
+
+  pub hears-same : hears cs set n ≡ hears ds set n
+  unfolding hears
+  hears-same = rw by-generation-same

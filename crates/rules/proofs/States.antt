@@ -22,7 +22,7 @@ use Rattle.layout.proofs.Held.{withOff, withRound, withCopies}
 use Rattle.rules.specs.Calls.{Call, lay, openRead, openWrite, openChange, poll, put, commit, abandon, link, reach}
 use Rattle.rules.specs.Rules.{wrongPut}
 use Rattle.rules.specs.Figures.{Figures, closing}
-use Rattle.rules.proofs.Chains.{Allowed}
+use Rattle.rules.specs.Done.{Allowed}
 use Rattle.rules.proofs.Stored.{committed, started}
 
 abbrev pub next : State → Call → State

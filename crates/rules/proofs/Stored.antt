@@ -90,6 +90,11 @@ module _ (t : List ℕ) (v : State) (f : Figures) (m : ℕ) (size : length t ≡
   unfolding address
   from-first s = omega arith
 
+  -- each station's copy, as the put sets say of it
+  put-next : (k : ℕ) → to (suc k) ≡ putCopy (to k) (at k) (d k) (c k) f (v .round .target)
+  unfolding putCopies
+  put-next k = refl
+
   -- only the item's copies at the stations below k change
   put-only : (k : ℕ) → k ≤ v .n → Only (at 0) (at k) t (to k)
   unfolding putCopies
@@ -97,9 +102,9 @@ module _ (t : List ℕ) (v : State) (f : Figures) (m : ℕ) (size : length t ≡
   put-only (suc k) h =
       let r = put-only k (omega arith) in
       let g = address-suc (v .n) (v .round .item) k in
-      only-trans (only-wider (le-refl (at 0)) (omega arith) r)
+      rw (put-next k) (only-trans (only-wider (le-refl (at 0)) (omega arith) r)
       (only-wider (from-first k) (omega arith) (copy-only (to k) (at k) f (v .round .target)
-      (rw (r .size, size) (address-fits (v .n) m (v .round .item) k item h)) long (d k) (c k)))
+      (rw (r .size, size) (address-fits (v .n) m (v .round .item) k item h)) long (d k) (c k))))
 
   pub put-length : (k : ℕ) → k ≤ v .n → length (to k) ≡ length t
   put-length k h = put-only k h .size

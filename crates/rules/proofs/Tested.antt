@@ -1,15 +1,14 @@
 -- What the tests of a call that is done have shown, as far as the book needs it.
-use mathlib.Core.Path.{_≡_, refl, sym, ap, _∙_}
+use mathlib.Core.Path.{_≡_, refl}
 use mathlib.Core.List.{List}
 use Prim.Native.Nat.{ℕ}
-use native.Mathlib.Omega.{arith}
 use Rattle.layout.specs.Fields.{Kind, none, read, write, change, Round}
-use Rattle.layout.specs.View.{State, view}
-use Rattle.layout.proofs.Soundness.{RoundFacts, StateSound, is-sound}
+use Rattle.layout.specs.View.{view}
+use Rattle.layout.proofs.Soundness.{RoundFacts, is-sound}
 use Rattle.rules.specs.Calls.{Call, lay, openRead, openWrite, openChange, poll, put, commit, abandon, link, reach}
-use Rattle.rules.specs.Rules.{numberOf}
 use Rattle.rules.specs.Reply.{reply}
-use Rattle.rules.proofs.Chains.{Allowed, allowed, open-busy}
+use Rattle.rules.specs.Done.{Allowed}
+use Rattle.rules.proofs.Chains.{allowed, open-busy}
 use Rattle.rules.proofs.Book.{Commits, Tested}
 
 -- "in a read both put sets .. are zero; in a write the configuration puts .. are zero"

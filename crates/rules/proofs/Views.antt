@@ -24,7 +24,8 @@ use Rattle.rules.specs.Figures.{closing}
 use Rattle.rules.specs.After.{putCopies, done}
 use Rattle.rules.specs.Passed.{Passable}
 use Rattle.rules.specs.Reply.{reply, after}
-use Rattle.rules.proofs.Chains.{Allowed, allowed}
+use Rattle.rules.specs.Done.{Allowed}
+use Rattle.rules.proofs.Chains.{allowed}
 use Rattle.rules.proofs.Newest.{heard-finds}
 use Rattle.rules.proofs.Stored.{Small, committed, holds-copies, holds-laid}
 pub use Rattle.rules.proofs.States.{next}
@@ -84,7 +85,7 @@ module _ (t : List ℕ) (w : State) (h : Holds t w) where
   opens-plain k i x lk lx f = opens k i x noTarget lk lx refl (bytes-zeros configSize) f
 
 -- a set of stations of a sound state fits into two bytes
-two-bytes : (v : State) → StateSound v → (set : ℕ) → within (v .n) set ≡ true → set < 65536
+pub two-bytes : (v : State) → StateSound v → (set : ℕ) → within (v .n) set ≡ true → set < 65536
 two-bytes v f set w = promise .within-16 (v .n) set (f .small) w
 
 -- the bytes after each call hold the state after it; that this state is sound bounds what is written
@@ -92,11 +93,11 @@ held : (t : List ℕ) (c : Call) → AreBytes t → Passable c → Allowed (view
 unfolding done
 held t (lay n m value config) b p a f =
     let z = a .0 in
-    holds-laid (view t) n m value config (omega arith) (omega arith) (p .2) (promise .valid-length n config (a .2)) (p .3)
+    holds-laid (view t) n m value config (omega arith) (omega arith) (p .0) (promise .valid-length n config (a .2)) (p .1)
 held t (openRead i) b p a f = opens-plain t (view t) (holds-own t b (a .0)) 1 i 0 (omega arith) (omega arith) f
-held t (openWrite i value) b p a f = opens-plain t (view t) (holds-own t b (a .0)) 2 i value (omega arith) (p .1) f
+held t (openWrite i value) b p a f = opens-plain t (view t) (holds-own t b (a .0)) 2 i value (omega arith) p f
 held t (openChange i target) b p a f =
-    opens t (view t) (holds-own t b (a .0)) 3 i 0 target (omega arith) (omega arith) (promise .valid-length (view t .n) target (a .2)) (p .1) f
+    opens t (view t) (holds-own t b (a .0)) 3 i 0 target (omega arith) (omega arith) (promise .valid-length (view t .n) target (a .2)) p f
 held t (poll s) b p a f = holds-polled t (view t) (holds-own t b (a .0)) _ (two-bytes _ f _ (f .polled))
 held t (put s sort) b p a f =
     holds-puts t (view t) (holds-own t b (a .0)) _ _ (two-bytes _ f _ (f .dataPuts)) (two-bytes _ f _ (f .configPuts))

@@ -5,7 +5,7 @@ use Prim.Native.Nat.{ℕ, zero, suc, _+_}
 use lib.ListN.{getD, set, replicate}
 use Rattle.rules.specs.Calls.{Call, lay, openRead, openWrite, openChange, poll, put, commit, abandon, link, reach}
 
--- "It keeps, for each of 32 items, a value, a count of writes and a count of changes."
+-- "It keeps, for each of 32 items, a value, a count of writes and a count of changes." The 32 stands in the step of a lay.
 pub record Entry : Type 0 where
   pub value : ℕ
   pub writes : ℕ
@@ -25,7 +25,7 @@ pub record Book : Type 0 where
 abbrev pub started : ℕ → Entry
 started value = record { value = value; writes = 0; changes = 0 }
 
--- what the book has for an item
+-- what the book has for an item; of one that it does not have nobody asks, and the zeros are never used
 abbrev pub entry : List Entry → ℕ → Entry
 entry items i = getD items i (started 0)
 

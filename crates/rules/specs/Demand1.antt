@@ -1,5 +1,7 @@
--- Demand 1, of the definitions: every call on any bytes and numbers has one reply and one table; "a refusal changes no byte and has
--- zero figures"; nothing is touched but what is lent. That the code ends and equals these definitions is in its contracts.
+-- Demand 1, of the definitions, for every call on any bytes and numbers: a refusal changes no byte and has zero figures; calls other
+-- than poll, commit and reach have zero figures always; the number is one of document 01's; the table keeps its length, and stays
+-- bytes. That there is one reply and one table is said by `reply` and `after` being functions; that the code ends, equals them and
+-- touches nothing but what it is lent is in its contracts.
 use mathlib.Core.Path.{_≡_}
 use mathlib.Core.Bool.{Bool, true, false}
 use mathlib.Core.List.{List}
@@ -30,7 +32,7 @@ hasFigures (reach i) = true
 pub record Demand1 : Type 0 where
   pub refusal-changes-nothing : (t : List ℕ) (c : Call) → (reply t c .number ≡ 0 → ⊥) → after t c ≡ t
   pub refusal-has-no-figures : (t : List ℕ) (c : Call) → (reply t c .number ≡ 0 → ⊥) → ZeroFigures (reply t c)
-  pub three-calls-have-figures : (t : List ℕ) (c : Call) → hasFigures c ≡ false → ZeroFigures (reply t c)
+  pub other-calls-have-no-figures : (t : List ℕ) (c : Call) → hasFigures c ≡ false → ZeroFigures (reply t c)
   -- a number of document 01's table; 12 is the frame runner's
   pub number-is-listed : (t : List ℕ) (c : Call) → reply t c .number ≤ 11
   -- the table keeps its length, and stays a list of bytes

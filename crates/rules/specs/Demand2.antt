@@ -1,6 +1,6 @@
--- Demand 2: "on a sound table a commit finishes exactly if the needed groups were heard and written and no counter it must raise is
--- spent; otherwise it gets that one number." The groups are source 000's quorums, sections 3 and 5.4, by quantifiers over
--- stations and places.
+-- Demand 2: on a sound table a commit finishes exactly if the needed groups were heard and written and no counter that it must raise is
+-- spent; otherwise it gets the one number that says which of these fails. The groups are source 000's quorums, sections 3, 5.2 and
+-- 5.4, by quantifiers over stations and places.
 use mathlib.Core.Path.{_≡_}
 use mathlib.Core.Bool.{true, false}
 use mathlib.Core.List.{List}
@@ -9,7 +9,7 @@ use Prim.Native.Nat.{ℕ, _-_, _^_, _≤_, _<_}
 use Rattle.quorum.specs.Sets.{member}
 use Rattle.quorum.specs.Configurations.{readSet, writeSet}
 use Rattle.quorum.specs.Promise.{Some, LiesIn}
-use Rattle.layout.specs.Fields.{Copy, Kind, none, read, write, change}
+use Rattle.layout.specs.Fields.{Kind, none, read, write, change}
 use Rattle.layout.specs.Soundness.{sound}
 use Rattle.layout.specs.View.{State, view}
 use Rattle.rules.specs.Calls.{commit}
@@ -45,10 +45,11 @@ Spent v f read = ⊥
 Spent v f write = own v (f .b) .version ≡ 2 ^ 64 - 1
 Spent v f change = own v (f .g) .generation ≡ 2 ^ 64 - 1
 
--- the write quorums that source 000 asks for lie within the put sets: of a write, one of the configuration found, by the data puts;
--- of a change, one of the new configuration by the data puts and one of the old by the configuration puts (5.4.3, 5.4.4)
+-- the write quorums that source 000 asks for lie within the put sets: of a write, one of the configuration found, by the data puts
+-- (5.2.3, 5.2.4); of a change, one of the new configuration by the data puts (5.2.4) and one of the old by the configuration puts
+-- (5.4.3, 5.4.4). With no round this is never asked: idle comes first.
 abbrev pub Written : (v : State) → Found v → Kind → Type 0
-Written v f none = ⊥
+Written v f none = Unit {0}
 Written v f read = Unit {0}
 Written v f write = QuorumIn (writeSet (own v (f .g) .config)) (v .round .dataPuts)
 Written v f change =

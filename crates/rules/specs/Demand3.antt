@@ -6,7 +6,7 @@ use Rattle.quorum.specs.Bytes.{AreBytes}
 use Rattle.rules.specs.Calls.{Call, lay, commit}
 use Rattle.rules.specs.Passed.{Passable}
 use Rattle.rules.specs.Reply.{reply, after}
-use Rattle.rules.specs.Book.{Book, Entry, Noted, none, read, write, change, entry, fed}
+use Rattle.rules.specs.Book.{Book, Noted, read, write, change, entry, fed}
 use Rattle.rules.specs.declared.Reply.{Reply}
 
 -- the item of a noted round
@@ -36,7 +36,8 @@ AllPassable [] = Unit {0}
 AllPassable (c ∷ calls) = Passable c × AllPassable calls
 
 -- "The list of demand 3 begins with a lay that replies 0, on bytes of any content. After it come the ten calls above in any order,
--- with any arguments, refused ones and further lays included."
+-- with any arguments, refused ones and further lays included." Of the arguments only values and configurations are bounded, by what a
+-- caller can pass (Passed.antt).
 pub record Demand3 : Type 0 where
   pub one-copy : (t : List ℕ) (b : Book) (n m value : ℕ) (config : List ℕ) (calls : List Call)
       → AreBytes t → AllPassable (lay n m value config ∷ calls) → reply t (lay n m value config) .number ≡ 0

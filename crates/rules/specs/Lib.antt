@@ -8,5 +8,8 @@ pub mod Book
 pub mod Passed
 pub mod Demand1
 pub mod Demand2
+pub mod Done
+pub mod Steps
+pub mod Twice
 pub mod Demand3
 pub mod SoundKept

@@ -5,8 +5,8 @@ use mathlib.Core.List.{[]}
 use mathlib.Core.Option.{Option, none, some}
 use Prim.Native.Nat.{ℕ, zero, suc}
 use lib.Dec.{ltb}
-use Rattle.quorum.specs.Sets.{member, full, minus}
-use Rattle.quorum.specs.Configurations.{holdsRead, holdsWrite}
+use Rattle.quorum.specs.Sets.{member}
+use Rattle.quorum.specs.Configurations.{holdsRead}
 use Rattle.layout.specs.Fields.{Copy}
 use Rattle.layout.specs.View.{State}
 
@@ -20,7 +20,7 @@ unfoldable pub newest : (ℕ → ℕ) → ℕ → ℕ → Option ℕ
 newest key set zero = none
 newest key set (suc k) = cond (member set k) (newer key k (newest key set k)) (newest key set k)
 
--- with nothing polled: no version, no configuration
+-- "With nothing polled it is unheard": the empty list has no read set, so that the zeros are never used
 abbrev pub noCopy : Copy
 noCopy = record { version = 0; value = 0; generation = 0; config = [] }
 

@@ -23,6 +23,7 @@ answer k f =
 unfoldable pub reply : List ℕ → Call → Reply
 reply t c = answer (numberOf (view t) c) (figuresOf (view t) c)
 
--- "A refusal leaves the table .. untouched"
+-- "A refusal leaves the table and every other lent buffer untouched": the table is here; the other buffers are the configuration
+-- slices, which are lent for reading only.
 unfoldable pub after : List ℕ → Call → List ℕ
 after t c = cond (eqb (numberOf (view t) c) 0) (done t (view t) c) t

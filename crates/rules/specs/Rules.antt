@@ -7,7 +7,7 @@ use Rattle.quorum.specs.Sets.{member}
 use Rattle.quorum.specs.Configurations.{valid, holdsWrite}
 use Rattle.layout.specs.Fields.{Kind, none, read, write, change}
 use Rattle.layout.specs.View.{State}
-use Rattle.rules.specs.Calls.{Call, lay, openRead, openWrite, openChange, poll, put, commit, abandon, link, reach}
+use Rattle.rules.specs.Calls.{Call, lay, openRead, openWrite, openChange, poll, put, commit, abandon, link, reach, isData, isConfig, isOff, isOn}
 use Rattle.rules.specs.Newest.{foundByVersion, foundByGeneration, heard}
 
 -- tests with their numbers, in the order in which they are made; the first that applies gives the number, 0 is done
@@ -18,7 +18,7 @@ unfoldable pub first : Chain → ℕ
 first [] = 0
 first (x ∷ rest) = cond (x .0) (x .1) (first rest)
 
--- "2 no such thing: station, item, put sort, link state, n or m not listed above"
+-- 2, no such thing: "station, item, put sort, link state, n or m not listed above"
 abbrev pub noStation : State → ℕ → Bool
 noStation v s = not (ltb s (v .n))
 
@@ -26,15 +26,15 @@ abbrev pub noItem : State → ℕ → Bool
 noItem v i = not (ltb i (v .m))
 
 abbrev pub noSort : ℕ → Bool
-noSort sort = not (eqb sort 1 || eqb sort 2)
+noSort sort = not (isData sort || isConfig sort)
 
 abbrev pub noLink : ℕ → Bool
-noLink state = not (eqb state 0 || eqb state 1)
+noLink state = not (isOff state || isOn state)
 
 abbrev pub noSize : ℕ → ℕ → Bool
 noSize n m = not (leb 1 n && leb n 16 && leb 1 m && leb m 32)
 
--- "4 busy: an opening while a round is open", "5 idle: .. without a round"
+-- 4, busy: "an opening while a round is open"; 5, idle: "poll, put, commit, abandon without a round"
 abbrev pub idle : Kind → Bool
 idle none = true
 idle read = false
@@ -44,19 +44,20 @@ idle change = false
 abbrev pub isIdle : State → Bool
 isIdle v = idle (v .round .kind)
 
--- "7 reading over: poll while a put set is not empty"
+-- 7, reading over: "poll while a put set is not empty"
 abbrev pub readingOver : State → Bool
 readingOver v = not (eqb (v .round .dataPuts) 0 && eqb (v .round .configPuts) 0)
 
--- "9 wrong put: a put in a read, a configuration put in a write"
+-- 9, wrong put: "a put in a read, a configuration put in a write". With no round this is never asked, here and below: idle comes
+-- first.
 abbrev pub wrongPut : Kind → ℕ → Bool
 wrongPut none sort = true
 wrongPut read sort = true
-wrongPut write sort = eqb sort 2
+wrongPut write sort = isConfig sort
 wrongPut change sort = false
 
--- "10 spent: found version is 2^64 − 1 at a data put or commit of a write, or found generation at a configuration put or
--- commit of a change"
+-- 10, spent: "found version is 2^64 − 1 at a data put or commit of a write, or found generation at a configuration put or commit of a
+-- change"
 abbrev pub last : ℕ → Bool
 last counter = eqb counter (2 ^ 64 - 1)
 
@@ -71,7 +72,7 @@ abbrev pub spentAtPut : State → Kind → ℕ → Bool
 spentAtPut v none sort = false
 spentAtPut v read sort = false
 spentAtPut v write sort = spent v write
-spentAtPut v change sort = eqb sort 2 && spent v change
+spentAtPut v change sort = isConfig sort && spent v change
 
 -- "A write needs data puts that hold a write set of the found configuration. A change needs data puts that hold a write set
 -- of the target, and configuration puts that hold a write set of the old, found configuration (source 000, 5.4)."

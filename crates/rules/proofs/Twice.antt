@@ -1,0 +1,114 @@
+-- Polling and putting twice, and what a lay looks at.
+use mathlib.Core.Path.{_≡_, refl, sym, ap, _∙_}
+use mathlib.Core.Bool.{Bool, true, false, cond}
+use mathlib.Core.List.{List, _++_}
+use Prim.Native.Nat.{ℕ, _<_}
+use native.Mathlib.Omega.{arith}
+use lib.Dec.{eqb}
+use lib.ListN.{length, length-append}
+use Rattle.quorum.specs.Sets.{member, join}
+use Rattle.quorum.proofs.Tests.{or-left, or-right, or-cases}
+use Rattle.quorum.proofs.Promise.{promise}
+use Rattle.layout.specs.Layout.{polledAt, dataPutsAt}
+use Rattle.layout.specs.View.{view}
+use Rattle.layout.specs.Updates.{bytesOf, setPolled, setPuts}
+use Rattle.layout.proofs.Parts.{over-again, length-bytes}
+use Rattle.layout.proofs.Fields.{polled-round, puts-round}
+use Rattle.rules.specs.Calls.{Call, lay, poll, put, isData}
+use Rattle.rules.specs.Rules.{refusals, numberOf}
+use Rattle.rules.specs.Figures.{figuresOf}
+use Rattle.rules.specs.After.{done}
+use Rattle.rules.specs.Reply.{reply, after}
+use Rattle.rules.specs.Twice.{Twice}
+use Rattle.rules.proofs.Views.{two-bytes, done-after, done-allowed, done-sound}
+use Rattle.rules.proofs.Lengths.{by-number, head}
+
+-- ---- a station that is in the set joins it again
+join-again : (a s : ℕ) → s < 16 → join (join a s) s ≡ join a s
+join-again a s l =
+    promise .same-members (join (join a s) s) (join a s)
+    (λ i m. or-cases (member (join a s) i) (eqb i s) (sym (promise .member-join (join a s) i s l) ∙ m) (λ h. h)
+    (λ h. promise .member-join a i s l ∙ or-right (member a i) (eqb i s) h))
+    (λ i m. promise .member-join (join a s) i s l ∙ or-left (member (join a s) i) (eqb i s) m)
+
+-- a call on a table that it leaves as it is, should it be done
+settled : (u : List ℕ) (c : Call) → done u (view u) c ≡ u → after u c ≡ u
+settled u c e = by-number (λ (w : List ℕ). w ≡ u) u c (λ _. e) refl
+
+-- ---- poll
+module _ (t : List ℕ) (s : ℕ) (e : reply t (poll s) .number ≡ 0) where
+  abbrev polled : ℕ
+  polled = join (view t .round .polled) s
+
+  polled-same : setPolled (setPolled t polled) polled ≡ setPolled t polled
+  unfolding setPolled
+  polled-same = over-again t polledAt (bytesOf 2 polled) (let l = head t (done-allowed t (poll s) e .0) in rw (length-bytes 2 polled) (omega arith))
+
+  polled-again : done (setPolled t polled) (view (setPolled t polled)) (poll s) ≡ setPolled t polled
+  unfolding done view
+  polled-again =
+      let a = done-allowed t (poll s) e in
+      let f = done-sound t (poll s) e in
+      let k = f .small in
+      let h = a .1 in
+      ap (λ r. setPolled (setPolled t polled) (join (r .polled) s)) (polled-round t (head t (a .0)) polled (two-bytes _ f polled (f .polled)))
+      ∙ ap (setPolled (setPolled t polled)) (join-again (view t .round .polled) s (omega arith)) ∙ polled-same
+
+  poll-twice : after (after t (poll s)) (poll s) ≡ after t (poll s)
+  unfolding done
+  poll-twice = rw (done-after t (poll s) e) (settled (setPolled t polled) (poll s) polled-again)
+
+-- ---- put
+module _ (t : List ℕ) (s sort : ℕ) (e : reply t (put s sort) .number ≡ 0) where
+  -- the put sets after a put on given ones
+  abbrev dataPuts : ℕ → ℕ
+  dataPuts d = cond (isData sort) (join d s) d
+
+  abbrev configPuts : ℕ → ℕ
+  configPuts c = cond (isData sort) c (join c s)
+
+  abbrev d : ℕ
+  d = dataPuts (view t .round .dataPuts)
+
+  abbrev c : ℕ
+  c = configPuts (view t .round .configPuts)
+
+  puts-same : setPuts (setPuts t d c) d c ≡ setPuts t d c
+  unfolding setPuts
+  puts-same =
+      let l = head t (done-allowed t (put s sort) e .0) in
+      over-again t dataPutsAt (bytesOf 2 d ++ bytesOf 2 c) (rw (length-append, length-bytes 2 d, length-bytes 2 c) (omega arith))
+
+  settle : s < 16 → (q : Bool) (a : ℕ) → (cond q (join (cond q (join a s) a) s) (cond q (join a s) a) ≡ cond q (join a s) a)
+      × (cond q (cond q a (join a s)) (join (cond q a (join a s)) s) ≡ cond q a (join a s))
+  settle l true a = (join-again a s l, refl)
+  settle l false a = (refl, join-again a s l)
+
+  puts-again : done (setPuts t d c) (view (setPuts t d c)) (put s sort) ≡ setPuts t d c
+  unfolding done view
+  puts-again =
+      let a = done-allowed t (put s sort) e in
+      let f = done-sound t (put s sort) e in
+      let k = f .small in
+      let h = a .1 .0 in
+      let l : s < 16 = omega arith in
+      ap (λ r. setPuts (setPuts t d c) (dataPuts (r .dataPuts)) (configPuts (r .configPuts)))
+      (puts-round t (head t (a .0)) d c (two-bytes _ f d (f .dataPuts)) (two-bytes _ f c (f .configPuts)))
+      ∙ rw (settle l (isData sort) (view t .round .dataPuts) .0, settle l (isData sort) (view t .round .configPuts) .1) puts-same
+
+  put-twice : after (after t (put s sort)) (put s sort) ≡ after t (put s sort)
+  unfolding done
+  put-twice = rw (done-after t (put s sort) e) (settled (setPuts t d c) (put s sort) puts-again)
+
+-- ---- lay
+module _ (t u : List ℕ) (n m value : ℕ) (config : List ℕ) (e : length t ≡ length u) where
+  lay-reply : reply t (lay n m value config) ≡ reply u (lay n m value config)
+  unfolding reply numberOf refusals view figuresOf
+  lay-reply = rw e
+
+  lay-after : reply t (lay n m value config) .number ≡ 0 → after t (lay n m value config) ≡ after u (lay n m value config)
+  unfolding done
+  lay-after z = let c = lay n m value config in done-after t c z ∙ sym (done-after u c (rw lay-reply at z))
+
+pub twice : Twice
+twice = record { poll-twice = poll-twice; put-twice = put-twice; lay-reply = lay-reply; lay-after = lay-after }

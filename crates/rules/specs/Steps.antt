@@ -1,0 +1,159 @@
+-- What each call that is done does, and its figures: on the state before and the state after, by members of sets, by stations and by
+-- quorums. It is proved of the bytes (After.antt) and the figures (Figures.antt) for every table of bytes and every call that can be
+-- passed, and lets a reader check them against document 01 without reading either. Figures that are not named here are zero
+-- (Demand1.antt).
+use mathlib.Core.Path.{_≡_}
+use mathlib.Core.Bool.{true, false, not, _&&_, _||_}
+use mathlib.Core.List.{List}
+use mathlib.Core.Logic.{_↔_}
+use Prim.Native.Nat.{ℕ, _+_, _<_}
+use lib.Dec.{ltb, eqb}
+use Rattle.quorum.specs.Bytes.{AreBytes}
+use Rattle.quorum.specs.Sets.{member}
+use Rattle.quorum.specs.Configurations.{readSet, writeSet}
+use Rattle.layout.specs.Fields.{Kind, none, read, write, change, Round}
+use Rattle.layout.specs.View.{State, view}
+use Rattle.layout.specs.Updates.{noTarget}
+use Rattle.rules.specs.Calls.{Call, lay, openRead, openWrite, openChange, poll, put, commit, abandon, link, reach}
+use Rattle.rules.specs.Passed.{Passable}
+use Rattle.rules.specs.Newest.{own}
+use Rattle.rules.specs.Reply.{reply, after}
+use Rattle.rules.specs.Demand2.{Newest, QuorumIn, Found, Heard}
+use Rattle.rules.specs.declared.Reply.{Reply}
+
+-- ---- sets: b is a with station s, and b is a without it
+abbrev pub Joined : ℕ → ℕ → ℕ → Type 0
+Joined a s b = (i : ℕ) → member b i ≡ (member a i || eqb i s)
+
+abbrev pub Removed : ℕ → ℕ → ℕ → Type 0
+Removed a s b = (i : ℕ) → member b i ≡ (member a i && not (eqb i s))
+
+-- ---- what stays: n, m and every copy; what the round is for
+pub record SameCopies (v w : State) : Type 0 where
+  pub n : w .n ≡ v .n
+  pub m : w .m ≡ v .m
+  pub copies : (i s : ℕ) → i < v .m → s < v .n → w .copies i s ≡ v .copies i s
+
+pub record SameOrder (v w : State) : Type 0 where
+  pub kind : w .round .kind ≡ v .round .kind
+  pub item : w .round .item ≡ v .round .item
+  pub value : w .round .value ≡ v .round .value
+  pub target : w .round .target ≡ v .round .target
+
+-- a round with nothing polled and no puts
+pub record Fresh (r : Round) (k : Kind) (i x : ℕ) (l : List ℕ) : Type 0 where
+  pub kind : r .kind ≡ k
+  pub item : r .item ≡ i
+  pub value : r .value ≡ x
+  pub target : r .target ≡ l
+  pub polled : r .polled ≡ 0
+  pub dataPuts : r .dataPuts ≡ 0
+  pub configPuts : r .configPuts ≡ 0
+
+abbrev pub NoRound : Round → Type 0
+NoRound r = Fresh r none 0 0 noTarget
+
+-- ---- lay: "every item alike, all stations on, no round." "Versions and generations start at 0."
+pub record Laid (w : State) (n m value : ℕ) (config : List ℕ) : Type 0 where
+  pub stations : w .n ≡ n
+  pub items : w .m ≡ m
+  pub off : (s : ℕ) → member (w .off) s ≡ false
+  pub round : NoRound (w .round)
+  pub copies : (i s : ℕ) → i < m → s < n
+      → (w .copies i s .version ≡ 0) × (w .copies i s .value ≡ value) × (w .copies i s .generation ≡ 0) × (w .copies i s .config ≡ config)
+
+-- ---- the openings, and abandon: "the round closes, copies unchanged"
+pub record Opened (v w : State) (k : Kind) (i x : ℕ) (l : List ℕ) : Type 0 where
+  pub copies : SameCopies v w
+  pub off : w .off ≡ v .off
+  pub round : Fresh (w .round) k i x l
+
+-- ---- poll: the station "joins the polled set"; "Poll's first figure is 1 if the round is now heard."
+pub record Polled (v w : State) (s : ℕ) (r : Reply) : Type 0 where
+  pub copies : SameCopies v w
+  pub order : SameOrder v w
+  pub off : w .off ≡ v .off
+  pub polled : Joined (v .round .polled) s (w .round .polled)
+  pub dataPuts : w .round .dataPuts ≡ v .round .dataPuts
+  pub configPuts : w .round .configPuts ≡ v .round .configPuts
+  pub heard : (r .first ≡ 1) ↔ ((f : Found w) × Heard w f)
+  pub unheard : (r .first ≡ 0) ↔ ((f : Found w) → Heard w f → ⊥)
+  pub noOther : (r .second ≡ 0) × (r .third ≡ 0)
+
+-- ---- put: the station "joins that put set", "1 data or 2 configuration"
+pub record Put (v w : State) (s sort : ℕ) : Type 0 where
+  pub copies : SameCopies v w
+  pub order : SameOrder v w
+  pub off : w .off ≡ v .off
+  pub polled : w .round .polled ≡ v .round .polled
+  pub dataPut : sort ≡ 1 → Joined (v .round .dataPuts) s (w .round .dataPuts) × (w .round .configPuts ≡ v .round .configPuts)
+  pub configPut : sort ≡ 2 → (w .round .dataPuts ≡ v .round .dataPuts) × Joined (v .round .configPuts) s (w .round .configPuts)
+
+-- ---- link: "going off takes the station out of both put sets; it stays in the polled set. Its copies are kept."
+pub record Linked (v w : State) (s state : ℕ) : Type 0 where
+  pub copies : SameCopies v w
+  pub order : SameOrder v w
+  pub polled : w .round .polled ≡ v .round .polled
+  pub goesOff : state ≡ 0
+      → Joined (v .off) s (w .off) × Removed (v .round .dataPuts) s (w .round .dataPuts) × Removed (v .round .configPuts) s (w .round .configPuts)
+  pub comesOn : state ≡ 1
+      → Removed (v .off) s (w .off) × (w .round .dataPuts ≡ v .round .dataPuts) × (w .round .configPuts ≡ v .round .configPuts)
+
+-- ---- commit: "Commit's figures are value, version, generation after the round": those of the copies found, "a write stores its value
+-- with the version plus one", and a change "the target with the generation plus one"
+abbrev pub Closing : (v : State) → Found v → Kind → Reply → Type 0
+Closing v f none r = ⊥
+Closing v f read r = (r .first ≡ own v (f .b) .value) × (r .second ≡ own v (f .b) .version) × (r .third ≡ own v (f .g) .generation)
+Closing v f write r = (r .first ≡ v .round .value) × (r .second ≡ own v (f .b) .version + 1) × (r .third ≡ own v (f .g) .generation)
+Closing v f change r = (r .first ≡ own v (f .b) .value) × (r .second ≡ own v (f .b) .version) × (r .third ≡ own v (f .g) .generation + 1)
+
+-- "Then every put takes effect": the figures and the target are stored at the stations of the put sets, in the copies of the round's
+-- item, and nothing else is. "The round closes."
+pub record Committed (v w : State) (r : Reply) : Type 0 where
+  pub found : Found v
+  pub figures : Closing v found (v .round .kind) r
+  pub n : w .n ≡ v .n
+  pub m : w .m ≡ v .m
+  pub off : w .off ≡ v .off
+  pub round : NoRound (w .round)
+  pub otherItem : (i s : ℕ) → i < v .m → s < v .n → (i ≡ v .round .item → ⊥) → w .copies i s ≡ v .copies i s
+  pub dataPut : (s : ℕ) → s < v .n → member (v .round .dataPuts) s ≡ true
+      → (w .copies (v .round .item) s .version ≡ r .second) × (w .copies (v .round .item) s .value ≡ r .first)
+  pub noDataPut : (s : ℕ) → s < v .n → member (v .round .dataPuts) s ≡ false
+      → (w .copies (v .round .item) s .version ≡ own v s .version) × (w .copies (v .round .item) s .value ≡ own v s .value)
+  pub configPut : (s : ℕ) → s < v .n → member (v .round .configPuts) s ≡ true
+      → (w .copies (v .round .item) s .generation ≡ r .third) × (w .copies (v .round .item) s .config ≡ v .round .target)
+  pub noConfigPut : (s : ℕ) → s < v .n → member (v .round .configPuts) s ≡ false
+      → (w .copies (v .round .item) s .generation ≡ own v s .generation) × (w .copies (v .round .item) s .config ≡ own v s .config)
+
+-- ---- reach: "take the configuration of the highest generation among all the item's copies. The figure is 1 if the stations on the bus
+-- hold one of its read sets, 3 if also a write set, else 0."
+pub record Reached (v : State) (i : ℕ) (r : Reply) : Type 0 where
+  -- all n stations, those on the bus, and the station whose copy has the highest generation
+  pub all : ℕ
+  pub isAll : (s : ℕ) → member all s ≡ ltb s (v .n)
+  pub on : ℕ
+  pub isOn : (s : ℕ) → member on s ≡ (ltb s (v .n) && not (member (v .off) s))
+  pub g : ℕ
+  pub newest : Newest (λ s. v .copies i s .generation) all (v .n) g
+  pub reads : (r .first ≡ 1) ↔ (QuorumIn (readSet (v .copies i g .config)) on × (QuorumIn (writeSet (v .copies i g .config)) on → ⊥))
+  pub writes : (r .first ≡ 3) ↔ (QuorumIn (readSet (v .copies i g .config)) on × QuorumIn (writeSet (v .copies i g .config)) on)
+  pub neither : (r .first ≡ 0) ↔ (QuorumIn (readSet (v .copies i g .config)) on → ⊥)
+  pub noOther : (r .second ≡ 0) × (r .third ≡ 0)
+
+-- the state before a call, the state after it, and its reply
+abbrev pub Step : Call → State → State → Reply → Type 0
+Step (lay n m value config) v w r = Laid w n m value config
+Step (openRead i) v w r = Opened v w read i 0 noTarget
+Step (openWrite i value) v w r = Opened v w write i value noTarget
+Step (openChange i target) v w r = Opened v w change i 0 target
+Step (poll s) v w r = Polled v w s r
+Step (put s sort) v w r = Put v w s sort
+Step commit v w r = Committed v w r
+Step abandon v w r = Opened v w none 0 0 noTarget
+Step (link s state) v w r = Linked v w s state
+Step (reach i) v w r = Reached v i r
+
+pub record Steps : Type 0 where
+  pub step : (t : List ℕ) (c : Call) → AreBytes t → Passable c → reply t c .number ≡ 0 → Step c (view t) (view (after t c)) (reply t c)
+  pub reach-changes-nothing : (t : List ℕ) (i : ℕ) → after t (reach i) ≡ t

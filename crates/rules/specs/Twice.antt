@@ -1,0 +1,19 @@
+-- Three sentences of document 01, of the definitions on any bytes.
+use mathlib.Core.Path.{_≡_}
+use mathlib.Core.List.{List}
+use Prim.Native.Nat.{ℕ}
+use lib.ListN.{length}
+use Rattle.rules.specs.Calls.{lay, poll, put}
+use Rattle.rules.specs.Reply.{reply, after}
+
+pub record Twice : Type 0 where
+  -- "Polling twice changes nothing."
+  pub poll-twice : (t : List ℕ) (s : ℕ) → reply t (poll s) .number ≡ 0 → after (after t (poll s)) (poll s) ≡ after t (poll s)
+  -- Put: "Twice changes nothing."
+  pub put-twice : (t : List ℕ) (s sort : ℕ) → reply t (put s sort) .number ≡ 0
+      → after (after t (put s sort)) (put s sort) ≡ after t (put s sort)
+  -- "Lay looks at nothing but its arguments and the table's length": its reply, and the table after it unless it is refused
+  pub lay-reply : (t u : List ℕ) (n m value : ℕ) (config : List ℕ) → length t ≡ length u
+      → reply t (lay n m value config) ≡ reply u (lay n m value config)
+  pub lay-after : (t u : List ℕ) (n m value : ℕ) (config : List ℕ) → length t ≡ length u → reply t (lay n m value config) .number ≡ 0
+      → after t (lay n m value config) ≡ after u (lay n m value config)
