@@ -98,9 +98,6 @@ round-kept {a} {e} {t} {u} f o p =
 abbrev pub HeadOnly : List ℕ → List ℕ → Type 0
 HeadOnly t u = Only offAt headSize t u
 
-pub head-over : (t : List ℕ) (a : ℕ) (l : List ℕ) → headSize ≤ length t → offAt ≤ a → a + length l ≤ headSize → HeadOnly t (over t a l)
-head-over t a l h p q = only-wider p q (only-over t a (a + length l) l refl (omega arith))
-
 pub head-stations : {t u : List ℕ} → HeadOnly t u → stations u ≡ stations t
 head-stations f = number-kept f stationsAt 1 refl
 
@@ -331,25 +328,6 @@ address-later n i j s k h l = omega (arith, mul-le-mul-right n h)
 pub table-head : (n m : ℕ) → headSize ≤ tableLength n m
 unfolding tableLength
 table-head n m = omega arith
-
--- two different copies do not overlap
-pub copies-apart : (n i j s u : ℕ) → s < n → u < n → (i ≡ j → s ≡ u → ⊥)
-    → outside (address n i s) (address n i s + copySize) (address n j u) copySize ≡ true
-unfolding address
-copies-apart n i j s u hs hu ne = go (ltb (i * n + s) (j * n + u)) refl
-  where
-    different : i * n + s ≡ j * n + u → ⊥
-    different e =
-        by-cases (λ (x : Bool). ltb i j ≡ x → ⊥) (ltb i j)
-        (λ _ p. omega (arith, mul-le-mul-right n (ltb-true i j p)))
-        (λ _ p. by-cases (λ (x : Bool). ltb j i ≡ x → ⊥) (ltb j i)
-        (λ _ q. omega (arith, mul-le-mul-right n (ltb-true j i q)))
-        (λ _ q. let r : i ≡ j = omega (arith, ltb-false) in
-        ne r (let f : j * n + s ≡ j * n + u = rw r at e in omega arith)) refl) refl
-
-    go : (x : Bool) → ltb (i * n + s) (j * n + u) ≡ x → outside (address n i s) (address n i s + copySize) (address n j u) copySize ≡ true
-    go true p = outside-after (address n i s) (address n i s + copySize) (address n j u) copySize (omega (arith, ltb-true))
-    go false p = let d = different in outside-before (address n i s) (address n i s + copySize) (address n j u) copySize (omega (arith, ltb-false))
 
 -- ---- one copy after each update of it
 abbrev pub withData : Copy → ℕ → ℕ → Copy

@@ -116,9 +116,6 @@ module _ (p : ℕ → Bool) where
       (λ _ q. or-right (anyBelow p k) (p k) (ap p (sym (eqb-true i k q)) ∙ e))
       (λ _ q. let h : i ≡ k → ⊥ = eqb-false i k q in or-left (anyBelow p k) (p k) (below-any k i (omega arith) e)) refl
 
-  pub none-below : (n : ℕ) → anyBelow p n ≡ false → (i : ℕ) → i < n → p i ≡ false
-  none-below n e i l = by-cases (λ (b : Bool). b ≡ false) (p i) (λ t. clash (below-any n i l t) e) (λ f. refl)
-
   -- ---- what a loop that counts up and joins its tests by `&` or `|` asks: at its start, at each turn, at its end
   pub all-start : allBelow p 0 ≡ true
   unfolding allBelow

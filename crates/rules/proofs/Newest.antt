@@ -61,12 +61,6 @@ module _ (key : ℕ → ℕ) (set : ℕ) where
       go (some b) h false m = kept k b h (λ p. clash p m)
 
   module _ (n : ℕ) where
-    pub newest-some : (b : ℕ) → newest key set n ≡ some b → Newest key set n b
-    newest-some b e = rw e at (is-newest n)
-
-    pub newest-none : newest key set n ≡ none → (s : ℕ) → s < n → member set s ≡ false
-    newest-none e = rw e at (is-newest n)
-
     -- there is one newest: of two, neither is the lower
     not-lower : (a b : ℕ) → Newest key set n a → Newest key set n b → b ≤ a
     not-lower a b p q =

@@ -109,9 +109,6 @@ module _ (t : List ℕ) (v : State) (f : Figures) (m : ℕ) (size : length t ≡
   pub put-length : (k : ℕ) → k ≤ v .n → length (to k) ≡ length t
   put-length k h = put-only k h .size
 
-  pub put-head : (k : ℕ) → k ≤ v .n → (b j : ℕ) → b + j ≤ headSize → part (to k) b j ≡ part t b j
-  put-head k h b j l = put-only k h .kept b j (outside-before (at 0) (at k) b j (omega (arith, address-head (v .n) (v .round .item) 0)))
-
   pub put-other : (k : ℕ) → k ≤ v .n → (i s : ℕ) → s < v .n → (i ≡ v .round .item → ⊥)
       → copyFrom (to k) (address (v .n) i s) ≡ copyFrom t (address (v .n) i s)
   put-other k h i s l ne = copy-kept (put-only k h) (address (v .n) i s) (go (ltb i (v .round .item)) refl)
