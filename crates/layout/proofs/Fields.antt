@@ -1,16 +1,16 @@
 -- The fields of the table after each update of its bytes.
 use mathlib.Core.Path.{_≡_, refl, ap, _∙_}
-use mathlib.Core.Bool.{Bool, true, false, _||_}
+use mathlib.Core.Bool.{Bool, true, _||_}
 use mathlib.Core.List.{List, _∷_, _++_}
-use Prim.Native.Nat.{ℕ, suc, _+_, _*_, _^_, _≤_, _<_}
+use Prim.Native.Nat.{ℕ, suc, _+_, _^_, _≤_, _<_}
 use native.Mathlib.Omega.{arith}
 use native.Mathlib.Nat.{add-zero, add-assoc, mul-le-mul-right, le-refl}
-use lib.Dec.{leb, ltb}
+use lib.Dec.{leb}
 use lib.ListN.{length, replicate, length-append}
 use lib.Seq.{take-all}
-use borrow.Author.Tests.{leb-true, le-leb, ltb-true, ltb-false}
+use borrow.Author.Tests.{leb-true, le-leb}
 use Rattle.quorum.specs.Bytes.{part, littleEndian, number, AreBytes}
-use Rattle.quorum.proofs.Tests.{or-cases, or-left, or-right, by-cases}
+use Rattle.quorum.proofs.Tests.{or-cases, or-left, or-right}
 use Rattle.layout.specs.Layout.{headSize, stationsAt, itemsAt, offAt, kindAt, itemAt, polledAt, dataPutsAt, configPutsAt, spareAt, valueAt, targetAt, copySize, copyVersionAt, copyValueAt, copyGenerationAt, copyConfigAt, configSize, address, tableLength}
 use Rattle.layout.specs.Fields.{Copy, Kind, kindOf, Round, stations, items, offSet, roundOf, copyFrom, copyOf}
 use Rattle.layout.specs.Updates.{bytesOf, over, setOff, setPolled, setPuts, setRound, putData, putConfig, copyBytes}

@@ -1,6 +1,6 @@
 -- A call's reply and table, from its number: refused, or done.
 use mathlib.Core.Path.{_≡_, refl, sym, ap, _∙_}
-use mathlib.Core.Bool.{Bool, true, false, cond}
+use mathlib.Core.Bool.{true, false, cond}
 use mathlib.Core.List.{List}
 use Prim.Native.Nat.{ℕ, _≤_, _<_}
 use native.Mathlib.Omega.{arith}
@@ -13,7 +13,7 @@ use Rattle.layout.specs.Fields.{stations}
 use Rattle.layout.specs.Soundness.{sound}
 use Rattle.layout.specs.View.{State, view}
 use Rattle.layout.proofs.Soundness.{Sound, sound-facts}
-use Rattle.rules.specs.Calls.{Call, lay, openRead, openWrite, openChange, poll, put, commit, abandon, link, reach}
+use Rattle.rules.specs.Calls.{Call, lay, openRead, openWrite, put, commit}
 use Rattle.rules.specs.Rules.{refusals, numberOf}
 use Rattle.rules.specs.Figures.{Figures, closing, figuresOf}
 use Rattle.rules.specs.After.{putCopies, closed, done}

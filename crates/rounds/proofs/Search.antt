@@ -19,7 +19,7 @@ use Rattle.layout.proofs.Soundness.{sound-facts}
 use Rattle.rules.specs.Newest.{newest, newer, copyOr}
 use Rattle.rules.proofs.Newest.{IsNewest, is-newest}
 use Rattle.rounds.specs.declared.newest.Found.{Found}
-use Rattle.rounds.specs.declared.newest.Found.the-variants.{At, Nobody}
+use Rattle.rounds.specs.declared.newest.Found.the-variants.{At}
 use Rattle.rounds.specs.Found.{asOption, Below}
 
 -- ---- a sound table, and the copy of one of its items at a station found

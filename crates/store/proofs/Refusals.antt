@@ -1,5 +1,5 @@
 -- The tests of a call one after the other, as the code makes them, and what each comes to in the rules.
-use mathlib.Core.Path.{_≡_, refl, sym, ap, _∙_}
+use mathlib.Core.Path.{_≡_, refl, sym, _∙_}
 use mathlib.Core.Bool.{Bool, true, false, not, _&&_, _||_}
 use mathlib.Core.List.{List}
 use mathlib.Core.Option.{Option}
@@ -7,11 +7,10 @@ use native.Mathlib.Nat.{le-refl}
 use Prim.Native.Nat.{ℕ, zero, suc, _-_, _^_, _≤_, _<_}
 use native.Mathlib.Omega.{arith}
 use lib.ListN.{length}
-use lib.Dec.{ltb, leb, eqb}
-use borrow.Author.Tests.{lt-ltb, le-ltb, eq-eqb, ne-eqb, eqb-false, not-true, not-false}
-use Rattle.quorum.proofs.Tests.{clash}
+use lib.Dec.{ltb, eqb}
+use borrow.Author.Tests.{lt-ltb, le-ltb, eqb-false, not-true, not-false}
 use Rattle.layout.specs.Layout.{headSize}
-use Rattle.layout.specs.Fields.{Kind, change, kindOf, stations, items, roundOf, copyOf}
+use Rattle.layout.specs.Fields.{change, kindOf, stations, items, roundOf, copyOf}
 use Rattle.layout.specs.Soundness.{sound}
 use Rattle.layout.specs.View.{view}
 use Rattle.layout.proofs.Fields.{table-head}

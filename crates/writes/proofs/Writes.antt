@@ -1,7 +1,7 @@
 -- What commit and lay write, as lists of bytes.
 use mathlib.Core.Path.{_≡_, refl, sym, _∙_}
 use mathlib.Core.Bool.{Bool, true, cond}
-use mathlib.Core.List.{List, [], _∷_, _++_, append-assoc, append-nil}
+use mathlib.Core.List.{List, _∷_, _++_, append-assoc, append-nil}
 use Prim.Native.Nat.{ℕ, zero, suc, _+_, _-_, _*_, _≤_, _<_}
 use native.Mathlib.Omega.{arith}
 use native.Mathlib.Nat.{add-zero, zero-add, suc-add, mul-le-mul}
@@ -14,7 +14,7 @@ use Rattle.layout.specs.Layout.{headSize, copySize, configSize, address, tableL
 use Rattle.layout.specs.Fields.{stations, items, roundOf}
 use Rattle.layout.specs.Soundness.{sound}
 use Rattle.layout.specs.Updates.{bytesOf, over, putData, putConfig, copyBytes}
-use Rattle.layout.specs.View.{State, view}
+use Rattle.layout.specs.View.{view}
 use Rattle.layout.proofs.Parts.{part-left, part-length, length-over, part-inside, part-whole, part-before, part-after, length-bytes, over-append}
 use Rattle.layout.proofs.Writing.{over-all}
 use Rattle.layout.proofs.Fields.{address-head, address-fits, copy-length}

@@ -3,10 +3,10 @@ use mathlib.Core.Path.{_≡_}
 use Rattle.layout.specs.Updates.{setPolled}
 use mathlib.Core.Path.{refl, sym, _∙_}
 use Rattle.layout.specs.View.{view}
-use Rattle.rules.specs.Calls.{lay, openRead, openWrite, openChange, poll, put, commit, abandon, link, reach}
+use Rattle.rules.specs.Calls.{poll}
 use Rattle.rules.specs.After.{done}
 use Rattle.rules.proofs.Chains.{allowed}
-use Rattle.ospreyscreen.proofs.Replies.{refused, finished, plain-finished, passed-sound, passed-long, item-byte, write-opens}
+use Rattle.ospreyscreen.proofs.Replies.{refused, finished, passed-sound, passed-long}
 use mathlib.Core.Path.{ap}
 use mathlib.Core.Bool.{cond}
 use Rattle.quorum.specs.Sets.{join}

@@ -1,5 +1,4 @@
 use mathlib.Core.Bool.{Bool·not-not}
-use mathlib.Core.Path.{refl}
 use Rattle.quorum.specs.Sets.{used, shares}
 use Rattle.quorum.specs.Lanes.{pairOk}
 use Rattle.quorum.proofs.pair_ok.Statement.{statement}

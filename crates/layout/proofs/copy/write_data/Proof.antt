@@ -1,5 +1,5 @@
 use mathlib.Core.Path.{_∙_}
-use Rattle.layout.specs.Updates.{bytesOf, putData}
+use Rattle.layout.specs.Updates.{putData}
 use Rattle.layout.proofs.Writing.{over-numbers}
 use borrow.Author.Needs.{needs}
 use Rattle.layout.proofs.copy.write_data.Statement.{statement}

@@ -1,4 +1,4 @@
-use Rattle.layout.specs.Updates.{setPuts, bytesOf}
+use Rattle.layout.specs.Updates.{setPuts}
 use Rattle.layout.proofs.Writing.{over-numbers}
 use mathlib.Core.Path.{_∙_}
 use borrow.Author.Needs.{needs}

@@ -1,5 +1,4 @@
 use mathlib.Core.Path.{refl, ap, _∙_}
-use Rattle.layout.specs.View.{view}
 use Rattle.rules.specs.Rules.{first}
 use Rattle.store.proofs.Refusals.{version-within, generation-within, version-found, generation-found, closing-figures}
 use Rattle.store.proofs.commit.read_reply.Statement.{statement}
