@@ -21,7 +21,7 @@ use Rattle.rules.specs.Passed.{Passable}
 use Rattle.rules.specs.Book.{Book, fed}
 use Rattle.rules.specs.Demand3.{Demand3, OneCopy, Agrees, AllPassable}
 use Rattle.frames.specs.Frame.{callOf}
-use Rattle.frames.specs.Session.{lent, replyOr, replyTo, tableOr, tableAfter}
+use Rattle.frames.specs.Session.{layLength, lent, replyOr, replyTo, tableOr, tableAfter}
 use Rattle.frames.specs.Calls.{fedOr, ShowsTheBook, callThen, callsOn, replyThen, repliesOn, NoLayDone, repliesOf}
 use Rattle.frames.proofs.Framed.{passable}
 
@@ -120,7 +120,7 @@ module _ (demand3 : Demand3) where
       let c = lay n m value config in (
         (λ q z. let no : _≡_ {A = ℕ} 0 1 = cc in absurd (omega arith)),
         by-number (reply (lent t c) c .number)
-            (λ z. inr (λ calls ps. rw (replaced t c z) (demand3 .one-copy (lent t c) b n m value config calls (bytes-zeros (tableLength n m)) (p, ps) z .1)))
+            (λ z. inr (λ calls ps. rw (replaced t c z) (demand3 .one-copy (lent t c) b n m value config calls (bytes-zeros (layLength n m)) (p, ps) z .1)))
             (λ z. rw (kept t c z, refused-book b c (reply (lent t c) c .number) z) r),
       )
 

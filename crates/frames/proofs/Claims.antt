@@ -6,7 +6,7 @@ use Rattle.frames.proofs.Digits
 use Rattle.frames.proofs.Framed
 use Rattle.frames.proofs.Framing
 use Rattle.frames.proofs.ReplyLine
-use Rattle.frames.proofs.Laying
+use Rattle.frames.proofs.Printing
 use Rattle.frames.proofs.Book
 use Rattle.frames.proofs.Pieces
 use Rattle.rules.proofs.Demands.{demand3}
@@ -24,7 +24,8 @@ claims =
       has-frame = Framing.has-frame;
       reply-length = ReplyLine.reply-length;
       reply-read-back = ReplyLine.reply-read-back;
-      lay-out-of-range = Laying.lay-out-of-range;
+      prints-the-reply = Printing.prints-the-reply;
+      stays-bytes = Printing.stays-bytes;
       cut-line = λ t line. (Pieces.printed-clip t line, Pieces.table-clip t line);
       in-pieces = Pieces.in-pieces;
       shows-the-book = λ input. Book.shows-the-book demand3 (linesOf input);

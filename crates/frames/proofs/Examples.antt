@@ -21,7 +21,7 @@ use Rattle.rules.specs.Figures.{figuresOf}
 use Rattle.rules.specs.After.{repeated, putCopies, done}
 use Rattle.rules.specs.Reply.{reply, after}
 use Rattle.frames.specs.ReplyLine.{replyBytes, replyLine}
-use Rattle.frames.specs.Session.{lent, replyTo, tableAfter, printed}
+use Rattle.frames.specs.Session.{layLength, lent, replyTo, tableAfter, printed}
 use Rattle.frames.specs.Run.{answers, run}
 use Rattle.rules.specs.Calls.{Call, lay, openRead, poll, put, commit, reach}
 use Rattle.frames.specs.Hex.{isDigit, allDigits, valueOf, byteOf, bytesIn, digitOf, hexOf}
@@ -130,5 +130,5 @@ refusedReplies = shown
     ∷ [])
 
 runs : run frameCase ∷ run refusedCase ∷ [] ≡ frameReplies ∷ refusedReplies ∷ []
-unfolding text chars shown littleEndian isDigit allDigits valueOf byteOf bytesIn frameLength callByte isFrame callsOf callOf inFront linesOf run answers printed tableAfter replyTo lent replyLine replyBytes digitOf hexOf reply after numberOf refusals first view figuresOf done tableLength address sound soundness roundSound copiesValid all allBelow anyBelow valid validity setAt readSet writeSet usedFirst someUsed allWithin sharesAll allShare holdsPlace holdsRead holdsWrite member used holds shares within join minus remove full copyFrom bytesOf over setOff setPolled setPuts setRound putData putConfig copyBytes repeated putCopies newest byVersion byGeneration hears frameCase frameReplies refusedCase refusedReplies
+unfolding text chars shown littleEndian isDigit allDigits valueOf byteOf bytesIn frameLength callByte isFrame callsOf callOf inFront linesOf run answers printed tableAfter replyTo lent layLength replyLine replyBytes digitOf hexOf reply after numberOf refusals first view figuresOf done tableLength address sound soundness roundSound copiesValid all allBelow anyBelow valid validity setAt readSet writeSet usedFirst someUsed allWithin sharesAll allShare holdsPlace holdsRead holdsWrite member used holds shares within join minus remove full copyFrom bytesOf over setOff setPolled setPuts setRound putData putConfig copyBytes repeated putCopies newest byVersion byGeneration hears frameCase frameReplies refusedCase refusedReplies
 runs = refl

@@ -5,7 +5,6 @@ pub mod Reading
 pub mod Values
 pub mod Writing
 pub mod ReplyLine
-pub mod Laying
 pub mod Framing
 pub mod Splitting
 pub mod Stretches
@@ -13,5 +12,6 @@ pub mod Taking
 pub mod Book
 pub mod Pieces
 pub mod Performing
+pub mod Printing
 pub mod Claims
 mod Examples

@@ -17,12 +17,11 @@ use Rattle.rules.specs.Rules.{noSize}
 use Rattle.rules.specs.After.{done}
 use Rattle.rules.specs.Reply.{reply, after}
 use Rattle.rules.specs.declared.Reply.{Reply}
-use Rattle.frames.specs.Frame.{callsOf}
-use Rattle.frames.specs.Session.{lent, replyOr, tableOr}
-use Rattle.frames.specs.Performing.{largest, callAt, layLength, Holds}
+use Rattle.frames.specs.Frame.{callsOf, callAt}
+use Rattle.frames.specs.Session.{layLength, lent, replyOr, tableOr}
+use Rattle.frames.specs.Performing.{largest, Holds}
 use Rattle.rules.proofs.Views.{done-after}
 use Rattle.rules.proofs.Demands.{twice}
-use Rattle.frames.proofs.Laying.{lay-out-of-range}
 use Rattle.frames.proofs.Book.{lent-same, refused-after, replaced, kept, went-on}
 
 -- ---- the sizes of a table
@@ -55,10 +54,6 @@ out-of-range n m f = by-cases (λ (b : Bool). b ≡ true) (noSize n m) (λ e. re
 pub lay-length-out : (n m : ℕ) → noSize n m ≡ true → layLength n m ≡ 0
 unfolding layLength
 lay-length-out n m e = rw e
-
-lay-length-is : (n m : ℕ) → noSize n m ≡ false → layLength n m ≡ tableLength n m
-unfolding layLength
-lay-length-is n m e = rw e
 
 pub lay-length-in : (n m : ℕ) → Sized n m → layLength n m ≡ 56 + 56 * (n * m)
 unfolding layLength tableLength
@@ -120,10 +115,8 @@ module _ (old : List ℕ) (whole : length old ≡ largest) where
         ≡ reply (lent (take used old) (lay n m value config)) (lay n m value config)
     unfolding lent
     lay-same =
-        by-size n m (λ e. lay-out-of-range _ _ n m value config e)
-        (λ e.
         let k : length (take (layLength n m) old) ≡ layLength n m = length-take-le (layLength n m) old (omega (arith, lay-length-le n m)) in
-        twice .lay-reply _ _ n m value config (k ∙ lay-length-is n m e ∙ sym (length-replicate (tableLength n m) 0)))
+        twice .lay-reply _ _ n m value config (k ∙ sym (length-replicate (layLength n m) 0))
 
     module _ (o : Option Call) (r : Reply) (last : List ℕ) (need : ℕ) (d : need ≡ layLength n m) (e : o ≡ some (lay n m value config))
         (p : r ≡ reply (take need old) (lay n m value config)) (q : last ≡ after (take need old) (lay n m value config)) where

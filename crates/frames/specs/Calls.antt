@@ -20,17 +20,18 @@ fedOr b (some c) k = fed b c k
 abbrev pub bookAfter : List ℕ → Book → List ℕ → Book
 bookAfter t b line = fedOr b (callOf line) (replyTo t line .number)
 
--- every commit among the lines that replies 0 shows the book's figures, from a table in use and a book on
+-- every commit among the lines that replies 0 shows the book's figures, starting from table t and book b
 abbrev pub ShowsTheBook : List ℕ → Book → List (List ℕ) → Type 0
 ShowsTheBook t b [] = Unit {0}
 ShowsTheBook t b (line ∷ lines) =
     (callOf line ≡ some commit → replyTo t line .number ≡ 0 → Agrees b (bookAfter t b line) (replyTo t line))
     × ShowsTheBook (tableAfter t line) (bookAfter t b line) lines
 
--- ---- the lists of demand 3 in a session: a lay that replies 0 begins one, on the bytes that it is lent; the frames after it are
+-- ---- the lists of demand 3 in a session. A lay frame is lent other bytes than the call before it left, so a session with several lays
+-- is not one list; these are the stretches that are, and `ShowsTheBook` is the claim over the whole. A lay that replies 0 begins one, on the bytes that it is lent; the frames after it are
 -- calls on the table as the call before left it, up to the next lay that replies 0. A refused lay is lent bytes of its own, keeps
 -- the table, and stands in no list.
--- the calls among lines that are no lays
+-- the calls of these lines, lays left out
 abbrev pub callThen : Option Call → List Call → List Call
 callThen none calls = calls
 callThen (some c) calls = cond (isLay c) calls (c ∷ calls)

@@ -7,13 +7,11 @@ use Prim.Native.Nat.{ℕ, _*_, _<_}
 use lib.ListN.{length}
 use Rattle.quorum.specs.Bytes.{AreBytes, number}
 use Rattle.rules.specs.Calls.{Call, lay}
-use Rattle.rules.specs.Rules.{noSize}
-use Rattle.rules.specs.Reply.{reply}
 use Rattle.rules.specs.declared.Reply.{Reply}
 use Rattle.rules.specs.Passed.{Passable, Word}
 use Rattle.rules.specs.Book.{Book}
 use Rattle.frames.specs.Hex.{allDigits, bytesIn, hexOf}
-use Rattle.frames.specs.Frame.{callOf, frameOf, Framable}
+use Rattle.frames.specs.Frame.{callByte, callOf, frameOf, Framable}
 use Rattle.frames.specs.ReplyLine.{lineEnd, replyLine}
 use Rattle.frames.specs.Session.{lent, replyTo, tableAfter, printed}
 use Rattle.frames.specs.Lines.{linesOf}
@@ -44,16 +42,16 @@ pub record Claims : Type 0 where
   pub ended-line : (line rest : List ℕ) → NoEnd line → linesOf (line ++ lineEnd ∷ rest) ≡ line ∷ linesOf rest
   pub last-line : (byte : ℕ) (line : List ℕ) → NoEnd (byte ∷ line) → linesOf (byte ∷ line) ≡ (byte ∷ line) ∷ []
   -- ---- frames
-  -- the calls of frames are calls that a program can make
+  -- the calls of frames are such as a caller can pass (Passed.antt of the rules)
   pub passable : (line : List ℕ) (c : Call) → callOf line ≡ some c → Passable c
   -- every call whose arguments fit has a frame, and the frame stands for it
   pub has-frame : (c : Call) → Framable c → callOf (hexOf (frameOf c)) ≡ some c
   -- ---- reply lines: 52 characters and the line end; the call byte, the number and the figures are read back from them
   pub reply-length : (call : ℕ) (r : Reply) → length (replyLine call r) ≡ 53
   pub reply-read-back : (call : ℕ) (r : Reply) → call < 256 → Showable r → Shows (bytesIn (replyLine call r)) call r
-  -- ---- lay out of range: its reply looks at nothing lent (`Twice` of the rules has the other lays)
-  pub lay-out-of-range : (t u : List ℕ) (n m value : ℕ) (config : List ℕ) → noSize n m ≡ true
-      → reply t (lay n m value config) ≡ reply u (lay n m value config)
+  -- ---- every line of a session on bytes prints what `replyTo` replies, each figure whole, and leaves bytes
+  pub prints-the-reply : (t line : List ℕ) → AreBytes t → Shows (bytesIn (printed t line)) (callByte line) (replyTo t line)
+  pub stays-bytes : (t line : List ℕ) → AreBytes t → AreBytes (tableAfter t line)
   -- ---- a long line can be cut: the first 87 bytes of a line tell its reply
   pub cut-line : (t line : List ℕ) → (printed t (clip line) ≡ printed t line) × (tableAfter t (clip line) ≡ tableAfter t line)
   -- ---- no line is lost or split however the input is cut into reads
@@ -61,7 +59,7 @@ pub record Claims : Type 0 where
   -- ---- demand 3 of a run: every commit line that replies 0, in any input, shows the figures of the book that is fed the calls of
   -- the frames with the numbers printed, whatever the book held at first
   pub shows-the-book : (input : List ℕ) (b : Book) → ShowsTheBook [] b (linesOf input)
-  -- a lay that replies 0 begins a list of demand 3, and the session replies as that list does
+  -- a lay that replies 0 begins a stretch of the session that is a list of demand 3, and the session replies as that list does
   pub list-of-demand-3 : (t line : List ℕ) (n m value : ℕ) (config : List ℕ) (lines : List (List ℕ))
       → callOf line ≡ some (lay n m value config) → replyTo t line .number ≡ 0 → NoLayDone (tableAfter t line) lines
       → replyTo t line ∷ repliesOn (tableAfter t line) lines

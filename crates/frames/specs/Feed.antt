@@ -42,7 +42,7 @@ unfoldable pub printedBy : State → List ℕ → List ℕ
 printedBy s [] = []
 printedBy s (byte ∷ rest) = printedAt s byte ++ printedBy (next s byte) rest
 
--- ---- the end of input: "A last line of one byte or more without its line end counts as a line."
+-- ---- the end of input, as `linesOf` has it (`in-pieces`): "A last line of one byte or more without its line end counts as a line."
 abbrev pub printedLast : List ℕ → List ℕ → List ℕ
 printedLast t [] = []
 printedLast t (byte ∷ rest) = printed t (byte ∷ rest)

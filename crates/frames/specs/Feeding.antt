@@ -17,7 +17,8 @@ abbrev pub stretch : List ℕ → ℕ → ℕ → List ℕ
 stretch piece from to = take (to - from) (drop from piece)
 
 -- From s to r the runner took a stretch of the piece: its state is what the definition has after that stretch, and what the
--- definition prints there stands in the output, from the place that s has on.
+-- definition prints there stands in the output, from `s .out` on. How far it goes is in the contract of `feed`: to the end of the
+-- piece, or until the output has no room for another reply line.
 pub record Takes (piece table line out : List ℕ) (s : Fed) (table' line' out' : List ℕ) (r : Fed) : Type 0 where
   pub forward : s .at ≤ r .at
   pub state : stateIn table' line' r ≡ afterPiece (stateIn table line s) (stretch piece (s .at) (r .at))

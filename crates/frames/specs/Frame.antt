@@ -45,9 +45,13 @@ callsOf bytes =
     ∷ some (reach (number bytes 1 1))
     ∷ []
 
+-- the call that a code and bytes stand for
+abbrev pub callAt : ℕ → List ℕ → Option Call
+callAt code bytes = getD (callsOf bytes) code none
+
 -- the call of a line that is a frame
 unfoldable pub callOf : List ℕ → Option Call
-callOf line = cond (isFrame line) (getD (callsOf (bytesIn line)) (callByte line) none) none
+callOf line = cond (isFrame line) (callAt (callByte line) (bytesIn line)) none
 
 -- ---- and back: the bytes of a call's frame, if its arguments fit
 unfoldable pub frameOf : Call → List ℕ

@@ -18,7 +18,7 @@ allDigits (c ∷ rest) = isDigit c && allDigits rest
 unfoldable pub valueOf : ℕ → ℕ
 valueOf c = cond (leb c 57) (c - 48) (c - 55)
 
--- and 255 of any other character
+-- as the code has it, with 255 for any other character
 unfoldable pub valueOr : ℕ → ℕ
 valueOr c = cond (isDigit c) (valueOf c) 255
 
@@ -26,7 +26,7 @@ valueOr c = cond (isDigit c) (valueOf c) 255
 unfoldable pub byteOf : ℕ → ℕ → ℕ
 byteOf high low = cond (isDigit high && isDigit low) (16 * valueOf high + valueOf low) 0
 
--- the bytes of characters, two each
+-- the bytes of characters, two each; a single character left over is dropped
 unfoldable pub bytesIn : List ℕ → List ℕ
 bytesIn [] = []
 bytesIn (high ∷ []) = []

@@ -1,4 +1,4 @@
--- What the frame reader hands over: the code and the bytes of a frame, room for the longest. Private to the crate: a reader needs
+-- What the frame reader hands over: the code and the bytes of a frame, room for the longest. A reader of the claims needs
 -- `callOf`, which the code and the bytes stand for (`frame-call` in proofs/Reading.antt).
 use mathlib.Core.Bool.{cond}
 use mathlib.Core.List.{List, [], _++_}
@@ -16,7 +16,7 @@ longest = 43
 unfoldable pub padded : List ℕ → List ℕ
 padded bytes = bytes ++ replicate (longest - length bytes) 0
 
--- of a line that is no frame: code 00 and no bytes
+-- of a line that is no frame: code 00 and 43 zeros
 unfoldable pub frameIn : List ℕ → Frame
 frameIn line =
     record {

@@ -1,4 +1,4 @@
--- What the line splitter does with a piece of input. Private to the crate: a reader needs `afterPiece` and `printedBy`, to which it
+-- What the line splitter does with a piece of input. A reader of the claims needs `afterPiece` and `printedBy`, to which it
 -- comes (`splits-ended`, `splits-over` in proofs/Stretches.antt).
 use mathlib.Core.Bool.{Bool, false, cond, _||_}
 use mathlib.Core.List.{List, [], _∷_}

@@ -32,7 +32,7 @@ setRound t kind item value target =
 abbrev pub noTarget : List ℕ
 noTarget = replicate configSize 0
 
--- ---- one copy, from its first byte on
+-- ---- one copy, by the place of its first byte
 unfoldable pub putData : List ℕ → ℕ → ℕ → ℕ → List ℕ
 putData t at version value = over t (at + copyVersionAt) (bytesOf 8 version ++ bytesOf 8 value)
 

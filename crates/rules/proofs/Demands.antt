@@ -2,6 +2,7 @@
 -- bears its name.
 use Rattle.rules.specs.Demand1.{Demand1}
 use Rattle.rules.proofs.Demand1.{refusal-changes-nothing, refusal-has-no-figures, other-calls-have-no-figures, number-is-listed}
+use Rattle.rules.proofs.Room.{figures-fit}
 use Rattle.rules.proofs.Lengths.{length-kept, bytes-kept}
 pub use Rattle.rules.proofs.Demand2.{demand2}
 pub use Rattle.rules.proofs.Demand3.{demand3}
@@ -17,6 +18,7 @@ demand1 =
       refusal-has-no-figures = refusal-has-no-figures;
       other-calls-have-no-figures = other-calls-have-no-figures;
       number-is-listed = number-is-listed;
+      figures-fit = figures-fit;
       length-kept = length-kept;
       bytes-kept = bytes-kept;
     }

@@ -15,3 +15,4 @@ pub mod Book
 pub mod Tested
 pub mod Demand3
 pub mod Demands
+pub mod Room

@@ -57,7 +57,7 @@ module _ (t : List ℕ) (b : AreBytes t) where
       let x = heard-finds (own (view t)) (view t .round .polled) (view t .n) h in
       (rw (x .version) (copy-words _), rw (x .generation) (copy-words _))
 
-  small-closing : (k : Kind) → heard (view t) ≡ true → spent (view t) k ≡ false → Small (closing (view t) k)
+  pub small-closing : (k : Kind) → heard (view t) ≡ true → spent (view t) k ≡ false → Small (closing (view t) k)
   unfolding view
   small-closing none h e = record { value = omega arith; version = omega arith; generation = omega arith }
   small-closing read h e = let x = found-words h in record { value = x .0 .value; version = x .0 .version; generation = x .1 .generation }

@@ -25,7 +25,7 @@ pub record Book : Type 0 where
 abbrev pub started : ℕ → Entry
 started value = record { value = value; writes = 0; changes = 0 }
 
--- what the book has for an item; of one that it does not have nobody asks, and the zeros are never used
+-- what the book has for an item; of one that it does not have nobody asks after a lay that replies 0
 abbrev pub entry : List Entry → ℕ → Entry
 entry items i = getD items i (started 0)
 

@@ -1,6 +1,6 @@
--- Demand 1, of the definitions, for every call on any bytes and numbers: a refusal changes no byte and has zero figures; calls other
--- than poll, commit and reach have zero figures always; the number is one of document 01's; the table keeps its length, and stays
--- bytes. That there is one reply and one table is said by `reply` and `after` being functions; that the code ends, equals them and
+-- Demand 1, of the definitions, for every call on any list of numbers: a refusal changes no byte and has zero figures; calls other
+-- than poll, commit and reach have zero figures always; the number is one of document 01's; on bytes the figures have 64 bits;
+-- the table keeps its length, and stays bytes. That there is one reply and one table is said by `reply` and `after` being functions; that the code ends, equals them and
 -- touches nothing but what it is lent is in its contracts.
 use mathlib.Core.Path.{_≡_}
 use mathlib.Core.Bool.{Bool, true, false}
@@ -9,7 +9,7 @@ use Prim.Native.Nat.{ℕ, _≤_}
 use lib.ListN.{length}
 use Rattle.quorum.specs.Bytes.{AreBytes}
 use Rattle.rules.specs.Calls.{Call, lay, openRead, openWrite, openChange, poll, put, commit, abandon, link, reach}
-use Rattle.rules.specs.Passed.{Passable}
+use Rattle.rules.specs.Passed.{Passable, Word}
 use Rattle.rules.specs.Reply.{reply, after}
 use Rattle.rules.specs.declared.Reply.{Reply}
 
@@ -35,6 +35,8 @@ pub record Demand1 : Type 0 where
   pub other-calls-have-no-figures : (t : List ℕ) (c : Call) → hasFigures c ≡ false → ZeroFigures (reply t c)
   -- a number of document 01's table; 12 is the frame runner's
   pub number-is-listed : (t : List ℕ) (c : Call) → reply t c .number ≤ 11
+  -- "three figures of 8 bytes": on bytes each has room for its number
+  pub figures-fit : (t : List ℕ) (c : Call) → AreBytes t → Word (reply t c .first) × Word (reply t c .second) × Word (reply t c .third)
   -- the table keeps its length, and stays a list of bytes
   pub length-kept : (t : List ℕ) (c : Call) → length (after t c) ≡ length t
   pub bytes-kept : (t : List ℕ) (c : Call) → AreBytes t → Passable c → AreBytes (after t c)

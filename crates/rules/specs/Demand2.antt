@@ -1,5 +1,5 @@
--- Demand 2: on a sound table a commit finishes exactly if the needed groups were heard and written and no counter that it must raise is
--- spent; otherwise it gets the one number that says which of these fails. The groups are source 000's quorums, sections 3, 5.2 and
+-- Demand 2: on a sound table a commit finishes exactly if the needed quorums were heard and written and no counter that it must raise is
+-- spent; otherwise it gets the one number that says which of these fails. The quorums are source 000's, sections 3, 5.2 and
 -- 5.4, by quantifiers over stations and places.
 use mathlib.Core.Path.{_≡_}
 use mathlib.Core.Bool.{true, false}

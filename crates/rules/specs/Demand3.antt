@@ -1,4 +1,4 @@
--- Demand 3: document 01's single claim over a whole list of calls (document 01, "The book of one copy").
+-- Demand 3: the single claim over a whole list of calls (document 01, "The book of one copy").
 use mathlib.Core.Path.{_≡_}
 use mathlib.Core.List.{List, [], _∷_}
 use Prim.Native.Nat.{ℕ}

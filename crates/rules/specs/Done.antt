@@ -1,6 +1,5 @@
 -- When a call is done: its number is 0 exactly if the facts that are listed for it hold. So a call is refused only for one of its
--- reasons: a store in which a lay, an opening, a poll or a put is never done does not meet this. (Commit, by source 000's quorums:
--- Demand2.antt.)
+-- reasons: of document 01's "Versions that fail" this rules out "every call refused". (Commit, by source 000's quorums: Demand2.antt.)
 use mathlib.Core.Path.{_≡_}
 use mathlib.Core.Bool.{true, false}
 use mathlib.Core.List.{List}
@@ -38,7 +37,7 @@ Allowed v (reach i) = (v .isSound ≡ true) × (i < v .m)
 
 pub record Done : Type 0 where
   pub done-exactly : (t : List ℕ) (c : Call) → (reply t c .number ≡ 0) ↔ Allowed (view t) c
-  -- the tests in that list, by quantifiers over stations: a round is heard exactly if it has found a configuration of which the polled
+  -- two of the tests in that list, by quantifiers over stations: a round is heard exactly if it has found a configuration of which the polled
   -- set holds a read quorum; what `spent` and `written` look at are the copies found
   pub heard-exactly : (v : State) → (heard v ≡ true) ↔ ((f : Found v) × Heard v f)
   pub found-copies : (v : State) (f : Found v) → (foundByVersion v ≡ own v (f .b)) × (foundByGeneration v ≡ own v (f .g))

@@ -29,7 +29,8 @@ closing v write = record { first = v .round .value; second = foundByVersion v .v
 closing v change = record { first = foundByVersion v .value; second = foundByVersion v .version; third = foundByGeneration v .generation + 1 }
 
 -- "take the configuration of the highest generation among all the item's copies. The figure is 1 if the stations on the bus
--- hold one of its read sets, 3 if also a write set, else 0."
+-- hold one of its read sets, 3 if also a write set, else 0." Of copies with equal generations that of the lowest station is taken, as in
+-- a round.
 abbrev pub reachOf : List ℕ → ℕ → ℕ
 reachOf config on = cond (holdsRead config on) (cond (holdsWrite config on) 3 1) 0
 

@@ -67,7 +67,7 @@ spent v read = false
 spent v write = last (foundByVersion v .version)
 spent v change = last (foundByGeneration v .generation)
 
--- a data put of a change raises no counter
+-- a data put of a change raises no counter; a configuration put in a write has got 9 before
 abbrev pub spentAtPut : State → Kind → ℕ → Bool
 spentAtPut v none sort = false
 spentAtPut v read sort = false

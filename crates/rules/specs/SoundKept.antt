@@ -1,5 +1,5 @@
 -- Soundness is kept: a call that replies 0 leaves a sound table, and a lay that replies 0 makes one. So in a list of calls that begins
--- with such a lay, while nobody else writes the table, no call gets 1 but a lay whose length does not fit.
+-- with such a lay, while nobody else writes the table, no call but a lay gets 1.
 use mathlib.Core.Path.{_≡_}
 use mathlib.Core.Bool.{true, false}
 use mathlib.Core.List.{List, [], _∷_}

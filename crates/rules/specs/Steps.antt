@@ -1,7 +1,7 @@
 -- What each call that is done does, and its figures: on the state before and the state after, by members of sets, by stations and by
 -- quorums. It is proved of the bytes (After.antt) and the figures (Figures.antt) for every table of bytes and every call that can be
--- passed, and lets a reader check them against document 01 without reading either. Figures that are not named here are zero
--- (Demand1.antt).
+-- passed, and lets a reader check them against document 01 without reading either. The figures of a call that has none
+-- here are zero (Demand1.antt).
 use mathlib.Core.Path.{_≡_}
 use mathlib.Core.Bool.{true, false, not, _&&_, _||_}
 use mathlib.Core.List.{List}
@@ -28,7 +28,7 @@ Joined a s b = (i : ℕ) → member b i ≡ (member a i || eqb i s)
 abbrev pub Removed : ℕ → ℕ → ℕ → Type 0
 Removed a s b = (i : ℕ) → member b i ≡ (member a i && not (eqb i s))
 
--- ---- what stays: n, m and every copy; what the round is for
+-- ---- what stays: n, m and every copy; the round's kind, item, value and target
 pub record SameCopies (v w : State) : Type 0 where
   pub n : w .n ≡ v .n
   pub m : w .m ≡ v .m

@@ -1,4 +1,4 @@
--- Three sentences of document 01, of the definitions on any bytes.
+-- Three sentences of document 01, of the definitions on any list of numbers.
 use mathlib.Core.Path.{_≡_}
 use mathlib.Core.List.{List}
 use Prim.Native.Nat.{ℕ}

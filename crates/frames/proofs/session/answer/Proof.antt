@@ -1,7 +1,7 @@
 use mathlib.Core.Path.{_≡_, _∙_}
 use Rattle.frames.specs.Frame.{callOf}
 use Rattle.frames.specs.Session.{replyTo, tableAfter, printed}
-use Rattle.frames.specs.Performing.{callAt}
+use Rattle.frames.specs.Frame.{callAt}
 use Rattle.frames.proofs.Reading.{frame-call}
 use borrow.Author.Needs.{needs}
 use Rattle.frames.proofs.session.answer.Statement.{statement}

@@ -4,7 +4,7 @@ use lib.ListN.{length-take}
 use Rattle.quorum.specs.Bytes.{part}
 use Rattle.rules.specs.Calls.{openRead, openWrite, openChange, poll, put, commit, abandon, link, reach}
 use Rattle.frames.specs.Frame.{callsOf}
-use Rattle.frames.specs.Performing.{callAt}
+use Rattle.frames.specs.Frame.{callAt}
 use Rattle.frames.proofs.Performing.{performed, other-code}
 use borrow.Author.Needs.{needs}
 use Rattle.frames.proofs.session.perform.Statement.{statement}

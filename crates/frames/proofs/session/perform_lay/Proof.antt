@@ -2,7 +2,7 @@ use native.Mathlib.Omega.{arith}
 use lib.ListN.{length-take}
 use Rattle.quorum.specs.Bytes.{part}
 use Rattle.frames.specs.Frame.{callsOf}
-use Rattle.frames.specs.Performing.{callAt}
+use Rattle.frames.specs.Frame.{callAt}
 use Rattle.frames.proofs.Performing.{lay-length-le, laid, not-laid}
 use borrow.Author.Needs.{needs}
 use Rattle.frames.proofs.session.perform_lay.Statement.{statement}
