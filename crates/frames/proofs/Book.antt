@@ -15,13 +15,13 @@ use Rattle.layout.specs.Soundness.{soundness, sound}
 use Rattle.layout.specs.View.{view}
 use Rattle.layout.proofs.Parts.{bytes-zeros}
 use Rattle.rules.specs.Calls.{Call, isLay, lay, openRead, openWrite, openChange, poll, put, commit, abandon, link, reach}
-use Rattle.rules.specs.Rules.{first, refusals, numberOf}
+use Rattle.rules.specs.Rules.{layLength, first, refusals, numberOf}
 use Rattle.rules.specs.Reply.{reply, after}
 use Rattle.rules.specs.Passed.{Passable}
 use Rattle.rules.specs.Book.{Book, fed}
 use Rattle.rules.specs.Demand3.{Demand3, OneCopy, Agrees, AllPassable}
 use Rattle.frames.specs.Frame.{callOf}
-use Rattle.frames.specs.Session.{layLength, lent, replyOr, replyTo, tableOr, tableAfter}
+use Rattle.frames.specs.Session.{lent, replyOr, replyTo, tableOr, tableAfter}
 use Rattle.frames.specs.Calls.{fedOr, ShowsTheBook, callThen, callsOn, replyThen, repliesOn, NoLayDone, repliesOf}
 use Rattle.frames.proofs.Framed.{passable}
 

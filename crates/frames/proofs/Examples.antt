@@ -16,12 +16,12 @@ use Rattle.layout.specs.Soundness.{roundSound, copiesValid, soundness, sound}
 use Rattle.layout.specs.View.{view}
 use Rattle.layout.specs.Updates.{bytesOf, over, setOff, setPolled, setPuts, setRound, putData, putConfig, copyBytes}
 use Rattle.rules.specs.Newest.{newest, byVersion, byGeneration, hears}
-use Rattle.rules.specs.Rules.{first, refusals, numberOf}
+use Rattle.rules.specs.Rules.{layLength, first, refusals, numberOf}
 use Rattle.rules.specs.Figures.{figuresOf}
 use Rattle.rules.specs.After.{repeated, putCopies, done}
 use Rattle.rules.specs.Reply.{reply, after}
 use Rattle.frames.specs.ReplyLine.{replyBytes, replyLine}
-use Rattle.frames.specs.Session.{layLength, lent, replyTo, tableAfter, printed}
+use Rattle.frames.specs.Session.{lent, replyTo, tableAfter, printed}
 use Rattle.frames.specs.Run.{answers, run}
 use Rattle.rules.specs.Calls.{Call, lay, openRead, poll, put, commit, reach}
 use Rattle.frames.specs.Hex.{isDigit, allDigits, valueOf, byteOf, bytesIn, digitOf, hexOf}

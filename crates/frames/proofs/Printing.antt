@@ -11,12 +11,13 @@ use Rattle.quorum.specs.Bytes.{AreBytes}
 use Rattle.quorum.proofs.Tests.{by-cases}
 use Rattle.layout.proofs.Parts.{bytes-zeros}
 use Rattle.rules.specs.Calls.{Call, lay, openRead, openWrite, openChange, poll, put, commit, abandon, link, reach}
+use Rattle.rules.specs.Rules.{layLength}
 use Rattle.rules.specs.Reply.{reply, after}
 use Rattle.rules.specs.Passed.{Passable}
 use Rattle.rules.proofs.Demands.{demand1}
 use Rattle.frames.specs.Hex.{bytesIn}
 use Rattle.frames.specs.Frame.{callByte, callOf}
-use Rattle.frames.specs.Session.{layLength, lent, replyOr, replyTo, tableOr, tableAfter, printed}
+use Rattle.frames.specs.Session.{lent, replyOr, replyTo, tableOr, tableAfter, printed}
 use Rattle.frames.specs.Claims.{Showable, Shows}
 use Rattle.frames.proofs.Digits.{bytes-in}
 use Rattle.frames.proofs.Framed.{passable}

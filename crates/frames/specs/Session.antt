@@ -7,15 +7,11 @@ use lib.Dec.{eqb}
 use lib.ListN.{replicate}
 use Rattle.layout.specs.Layout.{tableLength}
 use Rattle.rules.specs.Calls.{Call, lay, openRead, openWrite, openChange, poll, put, commit, abandon, link, reach}
-use Rattle.rules.specs.Rules.{noSize}
+use Rattle.rules.specs.Rules.{layLength}
 use Rattle.rules.specs.Reply.{reply, after}
 use Rattle.rules.specs.declared.Reply.{Reply}
 use Rattle.frames.specs.Frame.{callByte, callOf}
 use Rattle.frames.specs.ReplyLine.{replyLine, falseFrame}
-
--- the length that a lay needs; for n or m out of range it needs nothing
-unfoldable pub layLength : ℕ → ℕ → ℕ
-layLength n m = cond (noSize n m) 0 (tableLength n m)
 
 -- The bytes that a call is lent. "For a lay the runner lends just the length that its n and m need." What these bytes hold is free:
 -- "Lay looks at nothing but its arguments and the table's length" (Twice.antt of the rules). Every other call gets the table in use.

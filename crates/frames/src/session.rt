@@ -4,36 +4,18 @@ ghost use Prim.Native.Nat.{_+_, _≤_};
 ghost use lib.ListN.{length, take};
 ghost use Rattle.quorum.specs.Bytes.{number};
 ghost use Rattle.layout.specs.Updates.{over};
-ghost use Rattle.frames.specs.Session.{layLength, replyOr, tableOr, tableAfter, printed};
+ghost use Rattle.frames.specs.Session.{replyOr, tableOr, tableAfter, printed};
 ghost use Rattle.frames.specs.Performing.{Holds};
 ghost use Rattle.frames.specs.Frame.{callAt};
 use crate::frame;
 use crate::reply_line;
 use rules::Reply;
+use store::number::lay_length;
 
 // The reply to a call, and the length of the table in use after it.
 pub struct Performed {
     pub reply: Reply,
     pub used: usize,
-}
-
-// The length that a lay is lent; for n or m out of range none.
-fn lay_length(n: u64, m: u64) -> usize
-    ensures { λ r. ⌜ r ≡ layLength n m ⌝ }
-{
-    if n == 0 {
-        return 0;
-    }
-    if 16 < n {
-        return 0;
-    }
-    if m == 0 {
-        return 0;
-    }
-    if 32 < m {
-        return 0;
-    }
-    56 + 56 * ((n as usize) * (m as usize))
 }
 
 // Lay, lent just the length that its n and m need; a refused lay keeps the old table.

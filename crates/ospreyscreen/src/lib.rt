@@ -18,6 +18,8 @@ use layout::head::set_polled;
 use layout::head::set_puts;
 use layout::head::set_round;
 use layout::head::stations;
+use layout::number::CONFIG_SIZE;
+use layout::number::config_bytes_at;
 use rounds::newest::config_of;
 use rounds::newest::is_heard;
 use rounds::newest::newest_generation;
@@ -25,6 +27,9 @@ use rounds::round::Round;
 use rules::Reply;
 use store::commit::commit_reply;
 use store::commit::plain;
+use store::number::DATA;
+use store::number::DONE;
+use store::number::OFF;
 use store::number::abandon_number;
 use store::number::lay_number;
 use store::number::link_number;
@@ -72,11 +77,11 @@ pub extern "C" fn ospreyscreen_lay(
     ensures { λ _. ⌜ now (table .exit) ≡ after (now (table .entry)) (lay n m value (now (config .entry))) ⌝ }
 {
     let number = lay_number(table.len(), n, m, config);
-    if number != 0 {
+    if number != DONE {
         return plain(number);
     }
     lay_bytes(table, n, m, value, config);
-    plain(0)
+    plain(DONE)
 }
 
 #[no_mangle]
@@ -85,11 +90,11 @@ pub extern "C" fn ospreyscreen_open_read(table: &mut [u8], i: u64) -> Reply
     ensures { λ _. ⌜ now (table .exit) ≡ after (now (table .entry)) (openRead i) ⌝ }
 {
     let number = open_number(table, i);
-    if number != 0 {
+    if number != DONE {
         return plain(number);
     }
-    set_round(table, 1, i as u8, 0, [0u8; 32]);
-    plain(0)
+    set_round(table, 1, i as u8, 0, [0u8; CONFIG_SIZE]);
+    plain(DONE)
 }
 
 #[no_mangle]
@@ -98,11 +103,11 @@ pub extern "C" fn ospreyscreen_open_write(table: &mut [u8], i: u64, value: u64) 
     ensures { λ _. ⌜ now (table .exit) ≡ after (now (table .entry)) (openWrite i value) ⌝ }
 {
     let number = open_number(table, i);
-    if number != 0 {
+    if number != DONE {
         return plain(number);
     }
-    set_round(table, 2, i as u8, value, [0u8; 32]);
-    plain(0)
+    set_round(table, 2, i as u8, value, [0u8; CONFIG_SIZE]);
+    plain(DONE)
 }
 
 #[no_mangle]
@@ -111,17 +116,11 @@ pub extern "C" fn ospreyscreen_open_change(table: &mut [u8], i: u64, target: &[u
     ensures { λ _. ⌜ now (table .exit) ≡ after (now (table .entry)) (openChange i (now (target .entry))) ⌝ }
 {
     let number = open_change_number(table, i, target);
-    if number != 0 {
+    if number != DONE {
         return plain(number);
     }
-    set_round(
-        table,
-        3,
-        i as u8,
-        0,
-        layout::number::config_bytes_at(target, 0),
-    );
-    plain(0)
+    set_round(table, 3, i as u8, 0, config_bytes_at(target, 0));
+    plain(DONE)
 }
 
 #[no_mangle]
@@ -130,14 +129,14 @@ pub extern "C" fn ospreyscreen_poll(table: &mut [u8], station: u64) -> Reply
     ensures { λ _. ⌜ now (table .exit) ≡ after (now (table .entry)) (poll station) ⌝ }
 {
     let number = poll_number(table, station);
-    if number != 0 {
+    if number != DONE {
         return plain(number);
     }
     let round = Round::open(table).poll(station as usize);
     let heard = is_heard(table, item(table), round.polled);
     set_polled(table, round.polled);
     Reply {
-        number: 0,
+        number: DONE,
         first: one_if(heard),
         second: 0,
         third: 0,
@@ -150,12 +149,12 @@ pub extern "C" fn ospreyscreen_put(table: &mut [u8], station: u64, sort: u64) ->
     ensures { λ _. ⌜ now (table .exit) ≡ after (now (table .entry)) (put station sort) ⌝ }
 {
     let number = put_number(table, station, sort);
-    if number != 0 {
+    if number != DONE {
         return plain(number);
     }
-    let round = Round::open(table).put(station as usize, sort == 1);
+    let round = Round::open(table).put(station as usize, sort == DATA);
     set_puts(table, round.data_puts, round.config_puts);
-    plain(0)
+    plain(DONE)
 }
 
 #[no_mangle]
@@ -164,7 +163,7 @@ pub extern "C" fn ospreyscreen_commit(table: &mut [u8]) -> Reply
     ensures { λ _. ⌜ now (table .exit) ≡ after (now (table .entry)) commit ⌝ }
 {
     let outcome = commit_reply(table);
-    if outcome.number != 0 {
+    if outcome.number != DONE {
         return outcome;
     }
     finish(
@@ -182,11 +181,11 @@ pub extern "C" fn ospreyscreen_abandon(table: &mut [u8]) -> Reply
     ensures { λ _. ⌜ now (table .exit) ≡ after (now (table .entry)) abandon ⌝ }
 {
     let number = abandon_number(table);
-    if number != 0 {
+    if number != DONE {
         return plain(number);
     }
-    set_round(table, 0, 0, 0, [0u8; 32]);
-    plain(0)
+    set_round(table, 0, 0, 0, [0u8; CONFIG_SIZE]);
+    plain(DONE)
 }
 
 #[no_mangle]
@@ -195,21 +194,21 @@ pub extern "C" fn ospreyscreen_link(table: &mut [u8], station: u64, state: u64) 
     ensures { λ _. ⌜ now (table .exit) ≡ after (now (table .entry)) (link station state) ⌝ }
 {
     let number = link_number(table, station, state);
-    if number != 0 {
+    if number != DONE {
         return plain(number);
     }
     let s = station as usize;
     let round = Round::open(table);
     let off = off_set(table);
-    if state == 0 {
+    if state == OFF {
         let left = round.drop(s);
         set_off(table, quorum::with_station(off, s));
         set_puts(table, left.data_puts, left.config_puts);
-        return plain(0);
+        return plain(DONE);
     }
     set_off(table, quorum::without_station(off, s));
     set_puts(table, round.data_puts, round.config_puts);
-    plain(0)
+    plain(DONE)
 }
 
 #[no_mangle]
@@ -218,11 +217,11 @@ pub extern "C" fn ospreyscreen_reach(table: &mut [u8], i: u64) -> Reply
     ensures { λ _. ⌜ now (table .exit) ≡ after (now (table .entry)) (reach i) ⌝ }
 {
     let number = reach_number(table, i);
-    if number != 0 {
+    if number != DONE {
         return plain(number);
     }
     Reply {
-        number: 0,
+        number: DONE,
         first: reach_figure(table, i as usize),
         second: 0,
         third: 0,

@@ -4,10 +4,10 @@ use mathlib.Core.Path.{_≡_}
 use mathlib.Core.Bool.{true, false}
 use mathlib.Core.List.{List}
 use mathlib.Core.Logic.{_↔_, _⊎_}
-use Prim.Native.Nat.{ℕ, _≤_, _<_}
+use Prim.Native.Nat.{ℕ, _-_, _^_, _≤_, _<_}
 use Rattle.quorum.specs.Sets.{member}
 use Rattle.quorum.specs.Configurations.{valid}
-use Rattle.layout.specs.Fields.{none}
+use Rattle.layout.specs.Fields.{Kind, none, read, write, change}
 use Rattle.layout.specs.View.{State, view}
 use Rattle.rules.specs.Calls.{Call, lay, openRead, openWrite, openChange, poll, put, commit, abandon, link, reach}
 use Rattle.rules.specs.Newest.{own, foundByVersion, foundByGeneration, heard}
@@ -35,9 +35,20 @@ Allowed v abandon = (v .isSound ≡ true) × (v .round .kind ≡ none → ⊥)
 Allowed v (link s state) = (v .isSound ≡ true) × ((s < v .n) × ((state ≡ 0) ⊎ (state ≡ 1)))
 Allowed v (reach i) = (v .isSound ≡ true) × (i < v .m)
 
+-- what a put needs of an open round, in words of facts: in a read none is right, in a write the data put, in a change both; and the
+-- counter that the put is to raise is not the last
+abbrev pub PutFits : State → Kind → ℕ → Type 0
+PutFits v none sort = ⊥
+PutFits v read sort = ⊥
+PutFits v write sort = (sort ≡ 1) × (foundByVersion v .version ≡ 2 ^ 64 - 1 → ⊥)
+PutFits v change sort = (sort ≡ 1) ⊎ ((sort ≡ 2) × (foundByGeneration v .generation ≡ 2 ^ 64 - 1 → ⊥))
+
 pub record Done : Type 0 where
   pub done-exactly : (t : List ℕ) (c : Call) → (reply t c .number ≡ 0) ↔ Allowed (view t) c
-  -- two of the tests in that list, by quantifiers over stations: a round is heard exactly if it has found a configuration of which the polled
-  -- set holds a read quorum; what `spent` and `written` look at are the copies found
+  -- the tests in that list that are not facts already (those of commit: Demand2.antt). A put's:
+  pub put-exactly : (v : State) (k : Kind) (sort : ℕ) → (sort ≡ 1) ⊎ (sort ≡ 2)
+      → ((wrongPut k sort ≡ false) × (spentAtPut v k sort ≡ false)) ↔ PutFits v k sort
+  -- a round is heard exactly if it has found a configuration of which the polled set holds a read quorum, and the copies found are
+  -- those of the stations found
   pub heard-exactly : (v : State) → (heard v ≡ true) ↔ ((f : Found v) × Heard v f)
   pub found-copies : (v : State) (f : Found v) → (foundByVersion v ≡ own v (f .b)) × (foundByGeneration v ≡ own v (f .g))

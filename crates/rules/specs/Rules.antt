@@ -5,6 +5,7 @@ use Prim.Native.Nat.{ℕ, _-_, _^_}
 use lib.Dec.{ltb, leb, eqb}
 use Rattle.quorum.specs.Sets.{member}
 use Rattle.quorum.specs.Configurations.{valid, holdsWrite}
+use Rattle.layout.specs.Layout.{tableLength}
 use Rattle.layout.specs.Fields.{Kind, none, read, write, change}
 use Rattle.layout.specs.View.{State}
 use Rattle.rules.specs.Calls.{Call, lay, openRead, openWrite, openChange, poll, put, commit, abandon, link, reach, isData, isConfig, isOff, isOn}
@@ -33,6 +34,10 @@ noLink state = not (isOff state || isOn state)
 
 abbrev pub noSize : ℕ → ℕ → Bool
 noSize n m = not (leb 1 n && leb n 16 && leb 1 m && leb m 32)
+
+-- the length that a lay needs; for n or m out of range it needs nothing
+unfoldable pub layLength : ℕ → ℕ → ℕ
+layLength n m = cond (noSize n m) 0 (tableLength n m)
 
 -- 4, busy: "an opening while a round is open"; 5, idle: "poll, put, commit, abandon without a round"
 abbrev pub idle : Kind → Bool
@@ -82,9 +87,20 @@ written v read = true
 written v write = holdsWrite (foundByGeneration v .config) (v .round .dataPuts)
 written v change = holdsWrite (v .round .target) (v .round .dataPuts) && holdsWrite (foundByGeneration v .config) (v .round .configPuts)
 
--- "The lowest number that applies is given; lay tests 2, then 1, then 3."
+-- "lay tests 2, then 1, then 3", by whether the table's length fits
+abbrev pub layTests : Bool → ℕ → ℕ → List ℕ → Chain
+layTests fits n m config = (noSize n m, 2) ∷ (not fits, 1) ∷ (not (valid n config), 3) ∷ []
+
+-- the last tests of a put and of a commit, by the round's kind
+abbrev pub putTests : State → Kind → ℕ → Chain
+putTests v k sort = (wrongPut k sort, 9) ∷ (spentAtPut v k sort, 10) ∷ []
+
+abbrev pub commitTests : State → Kind → Chain
+commitTests v k = (spent v k, 10) ∷ (not (written v k), 11) ∷ []
+
+-- "The lowest number that applies is given"
 unfoldable pub refusals : State → Call → Chain
-refusals v (lay n m value config) = (noSize n m, 2) ∷ (not (v .fits n m), 1) ∷ (not (valid n config), 3) ∷ []
+refusals v (lay n m value config) = layTests (v .fits n m) n m config
 refusals v (openRead i) = (not (v .isSound), 1) ∷ (noItem v i, 2) ∷ (not (isIdle v), 4) ∷ []
 refusals v (openWrite i value) = (not (v .isSound), 1) ∷ (noItem v i, 2) ∷ (not (isIdle v), 4) ∷ []
 refusals v (openChange i target) =
@@ -93,10 +109,8 @@ refusals v (poll s) =
     (not (v .isSound), 1) ∷ (noStation v s, 2) ∷ (isIdle v, 5) ∷ (member (v .off) s, 6) ∷ (readingOver v, 7) ∷ []
 refusals v (put s sort) =
     (not (v .isSound), 1) ∷ (noStation v s || noSort sort, 2) ∷ (isIdle v, 5) ∷ (member (v .off) s, 6) ∷ (not (heard v), 8)
-    ∷ (wrongPut (v .round .kind) sort, 9) ∷ (spentAtPut v (v .round .kind) sort, 10) ∷ []
-refusals v commit =
-    (not (v .isSound), 1) ∷ (isIdle v, 5) ∷ (not (heard v), 8) ∷ (spent v (v .round .kind), 10)
-    ∷ (not (written v (v .round .kind)), 11) ∷ []
+    ∷ putTests v (v .round .kind) sort
+refusals v commit = (not (v .isSound), 1) ∷ (isIdle v, 5) ∷ (not (heard v), 8) ∷ commitTests v (v .round .kind)
 refusals v abandon = (not (v .isSound), 1) ∷ (isIdle v, 5) ∷ []
 refusals v (link s state) = (not (v .isSound), 1) ∷ (noStation v s || noLink state, 2) ∷ []
 refusals v (reach i) = (not (v .isSound), 1) ∷ (noItem v i, 2) ∷ []

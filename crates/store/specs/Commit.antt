@@ -1,17 +1,16 @@
 -- Parts of the rules that single functions of the code are held to.
 use mathlib.Core.Path.{_≡_}
-use mathlib.Core.Bool.{true, not}
-use mathlib.Core.List.{List, [], _∷_}
+use mathlib.Core.Bool.{true}
+use mathlib.Core.List.{List}
 use mathlib.Core.Option.{Option}
 use Prim.Native.Nat.{ℕ}
 use lib.Dec.{eqb}
-use Rattle.quorum.specs.Configurations.{valid}
 use Rattle.layout.specs.Layout.{tableLength}
 use Rattle.layout.specs.Fields.{Kind, stations, roundOf, copyOf}
 use Rattle.layout.specs.Soundness.{sound}
 use Rattle.layout.specs.View.{State}
 use Rattle.rules.specs.Newest.{newest}
-use Rattle.rules.specs.Rules.{Chain, first, noSize, wrongPut, spent, spentAtPut, written}
+use Rattle.rules.specs.Rules.{first, layTests, commitTests}
 use Rattle.rules.specs.Figures.{closing}
 use Rattle.rules.specs.Reply.{answer}
 use Rattle.rules.specs.declared.Reply.{Reply}
@@ -25,12 +24,8 @@ pub record RoundFound (t : List ℕ) (i : ℕ) (b g : Option ℕ) : Type 0 where
 
 -- the reply to a commit of a heard round of this kind
 abbrev pub closingReply : State → Kind → Reply
-closingReply v k = answer (first ((spent v k, 10) ∷ (not (written v k), 11) ∷ [])) (closing v k)
-
--- the last tests of a put
-abbrev pub putKind : State → ℕ → Chain
-putKind v sort = (wrongPut (v .round .kind) sort, 9) ∷ (spentAtPut v (v .round .kind) sort, 10) ∷ []
+closingReply v k = answer (first (commitTests v k)) (closing v k)
 
 -- lay's number, from the table's length alone
 abbrev pub layNumber : ℕ → ℕ → ℕ → List ℕ → ℕ
-layNumber length n m config = first ((noSize n m, 2) ∷ (not (eqb length (tableLength n m)), 1) ∷ (not (valid n config), 3) ∷ [])
+layNumber length n m config = first (layTests (eqb length (tableLength n m)) n m config)

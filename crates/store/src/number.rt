@@ -1,4 +1,4 @@
-// The number of each call's reply but lay's and commit's: document 01's tests in its order. Nothing is changed here.
+// The number of each call's reply but commit's: document 01's tests in its order. Nothing is changed here.
 ghost use mathlib.Core.Path.{_≡_};
 ghost use mathlib.Core.Bool.{true, _||_};
 ghost use lib.Dec.{eqb};
@@ -10,8 +10,10 @@ ghost use Rattle.layout.specs.Fields.{write, change};
 ghost use Rattle.layout.specs.Soundness.{sound};
 ghost use Rattle.layout.specs.View.{view};
 ghost use Rattle.rules.specs.Calls.{openRead, openChange, poll, put, abandon, link, reach};
-ghost use Rattle.rules.specs.Rules.{first, readingOver, spent, numberOf};
-ghost use Rattle.store.specs.Commit.{putKind, layNumber};
+ghost use Rattle.rules.specs.Rules.{first, layLength, putTests, readingOver, spent, numberOf};
+ghost use Rattle.store.specs.Commit.{layNumber};
+use layout::copy::COPY_SIZE;
+use layout::head::HEAD_SIZE;
 use layout::head::config_puts;
 use layout::head::data_puts;
 use layout::head::item;
@@ -163,7 +165,7 @@ pub fn put_number(t: &[u8], s: u64, sort: u64) -> u64
 // The last tests of a put, by the round's kind.
 fn put_kind_number(t: &[u8], sort: u64) -> u64
     requires { ⌜ (sound (now t) ≡ true) × (number (now t) kindAt 1 ≡ 0 → ⊥) ⌝ }
-    ensures { λ r. ⌜ r ≡ first (putKind (view (now (t .entry))) sort) ⌝ }
+    ensures { λ r. ⌜ r ≡ first (putTests (view (now (t .entry))) (view (now (t .entry)) .round .kind) sort) ⌝ }
 {
     let k = kind(t);
     if k == READ {
@@ -187,7 +189,7 @@ fn put_kind_number(t: &[u8], sort: u64) -> u64
 }
 
 // Whether the version that the round found is the last.
-pub fn version_spent(t: &[u8]) -> bool
+fn version_spent(t: &[u8]) -> bool
     requires { ⌜ sound (now t) ≡ true ⌝ }
     ensures { λ r. ⌜ r ≡ spent (view (now (t .entry))) write ⌝ }
 {
@@ -197,7 +199,7 @@ pub fn version_spent(t: &[u8]) -> bool
 }
 
 // Whether the generation that the round found is the last.
-pub fn generation_spent(t: &[u8]) -> bool
+fn generation_spent(t: &[u8]) -> bool
     requires { ⌜ sound (now t) ≡ true ⌝ }
     ensures { λ r. ⌜ r ≡ spent (view (now (t .entry))) change ⌝ }
 {
@@ -245,23 +247,34 @@ pub fn reach_number(t: &[u8], i: u64) -> u64
     DONE
 }
 
+// The length that a lay needs; 0 for n or m out of range.
+pub fn lay_length(n: u64, m: u64) -> usize
+    ensures { λ r. ⌜ r ≡ layLength n m ⌝ }
+{
+    if n < 1 {
+        return 0;
+    }
+    if 16 < n {
+        return 0;
+    }
+    if m < 1 {
+        return 0;
+    }
+    if 32 < m {
+        return 0;
+    }
+    HEAD_SIZE + COPY_SIZE * (n as usize * m as usize)
+}
+
 // Lay looks at nothing but its arguments and the table's length.
 pub fn lay_number(length: usize, n: u64, m: u64, config: &[u8]) -> u64
     ensures { λ r. ⌜ r ≡ layNumber length n m (now (config .entry)) ⌝ }
 {
-    if n < 1 {
+    let need = lay_length(n, m);
+    if need == 0 {
         return NO_SUCH_THING;
     }
-    if 16 < n {
-        return NO_SUCH_THING;
-    }
-    if m < 1 {
-        return NO_SUCH_THING;
-    }
-    if 32 < m {
-        return NO_SUCH_THING;
-    }
-    if length as u64 != 56 + 56 * (n * m) {
+    if length != need {
         return UNSOUND;
     }
     if !quorum::is_valid(config, n as usize) {

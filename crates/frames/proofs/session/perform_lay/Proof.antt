@@ -3,7 +3,8 @@ use lib.ListN.{length-take}
 use Rattle.quorum.specs.Bytes.{part}
 use Rattle.frames.specs.Frame.{callsOf}
 use Rattle.frames.specs.Frame.{callAt}
-use Rattle.frames.proofs.Performing.{lay-length-le, laid, not-laid}
+use Rattle.store.proofs.Sizes.{lay-length-le}
+use Rattle.frames.proofs.Performing.{laid, not-laid}
 use borrow.Author.Needs.{needs}
 use Rattle.frames.proofs.session.perform_lay.Statement.{statement}
 use Rattle.frames.proofs.session.perform_lay.Tie as tie

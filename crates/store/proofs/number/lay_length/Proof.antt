@@ -1,8 +1,8 @@
 use mathlib.Core.Path.{sym}
 use native.Mathlib.Omega.{arith}
-use Rattle.frames.proofs.Performing.{out-of-range, lay-length-out, lay-length-in, product-le}
-use Rattle.frames.proofs.session.lay_length.Statement.{statement}
-use Rattle.frames.proofs.session.lay_length.Tie as tie
+use Rattle.store.proofs.Sizes.{out-of-range, lay-length-out, lay-length-in, product-le}
+use Rattle.store.proofs.number.lay_length.Statement.{statement}
+use Rattle.store.proofs.number.lay_length.Tie as tie
 
 returns : tie.Need-returns
 returns c = let a = c .before .args in sym (lay-length-out (a .n) (a .m) (out-of-range (a .n) (a .m) (λ s. omega (arith, s .n-low))))
