@@ -3,4 +3,3 @@ pub mod Fields
 pub mod Soundness
 pub mod View
 pub mod Updates
-pub mod Scan

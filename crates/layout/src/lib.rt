@@ -2,4 +2,3 @@
 pub mod copy;
 pub mod head;
 pub mod number;
-pub mod sound;

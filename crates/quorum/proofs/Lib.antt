@@ -2,6 +2,8 @@ pub mod Tests
 pub mod Bytes
 pub mod Members
 pub mod Validity
-pub mod Lanes
+pub mod Sides
+pub mod Pairs
+pub mod Same
 pub mod Promise
 mod Examples

@@ -5,7 +5,7 @@ use Prim.Native.Nat.{ℕ, zero, suc, _+_, _*_}
 use lib.ListN.{length}
 use lib.Dec.{leb, eqb}
 use Rattle.quorum.specs.Tests.{all, allBelow, anyBelow}
-use Rattle.quorum.specs.Bytes.{number}
+use Rattle.quorum.specs.Bytes.{part, number}
 use Rattle.quorum.specs.Sets.{used, holds, shares, within}
 use Rattle.quorum.specs.declared.Place.{Place}
 use Rattle.quorum.specs.declared.Place.the-variants.{At, Nowhere}
@@ -60,6 +60,13 @@ validity n c =
 
 unfoldable pub valid : ℕ → List ℕ → Bool
 valid n c = all (validity n c)
+
+-- the configuration in a list of bytes at a place; and the first of those that stand there a stride apart
+abbrev pub validAt : ℕ → List ℕ → ℕ → Bool
+validAt n bytes at = valid n (part bytes at 32)
+
+unfoldable pub validTo : ℕ → List ℕ → ℕ → ℕ → ℕ → Bool
+validTo n bytes at stride count = allBelow (λ k. validAt n bytes (at + stride * k)) count
 
 -- the set holds every station of the used set at a place of the side
 unfoldable pub holdsPlace : (ℕ → ℕ) → ℕ → ℕ → Bool

@@ -2,5 +2,5 @@ pub mod Tests
 pub mod Bytes
 pub mod Sets
 pub mod Configurations
-pub mod Lanes
+pub mod Inner
 pub mod Promise

@@ -21,7 +21,6 @@ use layout::head::kind;
 use layout::head::polled;
 use layout::head::target;
 use layout::head::value;
-use layout::sound::is_sound;
 use rounds::newest::Found;
 use rounds::newest::config_of;
 use rounds::newest::generation_of;
@@ -30,6 +29,7 @@ use rounds::newest::newest_version;
 use rounds::newest::value_of;
 use rounds::newest::version_of;
 use rules::Reply;
+use soundness::is_sound;
 
 // A reply with zero figures.
 pub fn plain(number: u64) -> Reply

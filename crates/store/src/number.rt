@@ -22,12 +22,12 @@ use layout::head::kind;
 use layout::head::off_set;
 use layout::head::polled;
 use layout::head::stations;
-use layout::sound::is_sound;
 use rounds::newest::generation_of;
 use rounds::newest::is_heard;
 use rounds::newest::newest_generation;
 use rounds::newest::newest_version;
 use rounds::newest::version_of;
+use soundness::is_sound;
 
 pub const DONE: u64 = 0;
 

@@ -2,7 +2,7 @@ use borrow.Author.Needs.{needs}
 use Prim.Native.Nat.{_+_, _-_, _≤_}
 use mathlib.Core.Path.{_≡_, sym}
 use Rattle.quorum.specs.Tests.{anyBelow}
-use Rattle.quorum.specs.Lanes.{placeHeld, anyHeld}
+use Rattle.quorum.specs.Inner.{placeHeld, anyHeld}
 use Rattle.quorum.proofs.Tests.{any-start, any-turn, any-end}
 use Rattle.quorum.proofs.any_held.Statement.{statement}
 use Rattle.quorum.proofs.any_held.Tie as tie

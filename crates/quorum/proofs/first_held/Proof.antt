@@ -2,7 +2,7 @@ use borrow.Author.Needs.{needs}
 use Prim.Native.Nat.{_+_, _-_, _≤_}
 use mathlib.Core.Path.{_≡_, sym}
 use Rattle.quorum.specs.Configurations.{firstPlace}
-use Rattle.quorum.specs.Lanes.{placeHeld, firstHeld}
+use Rattle.quorum.specs.Inner.{placeHeld, firstHeld}
 use Rattle.quorum.specs.declared.Place.the-variants.{Nowhere}
 use Rattle.quorum.proofs.Validity.{first-start, first-on, first-hit, first-end}
 use Rattle.quorum.proofs.first_held.Statement.{statement}

@@ -1,5 +1,5 @@
 use mathlib.Core.Path.{sym, _∙_}
-use Rattle.quorum.proofs.Lanes.{first-of-read}
+use Rattle.quorum.proofs.Sides.{first-of-read}
 use Rattle.quorum.proofs.Promise.{promise}
 use borrow.Author.Needs.{needs}
 use Rattle.quorum.proofs.first_read_place.Statement.{statement}

@@ -1,5 +1,5 @@
 use mathlib.Core.Path.{sym, _∙_}
-use Rattle.quorum.proofs.Lanes.{first-of-write}
+use Rattle.quorum.proofs.Sides.{first-of-write}
 use Rattle.quorum.proofs.Promise.{promise}
 use borrow.Author.Needs.{needs}
 use Rattle.quorum.proofs.first_write_place.Statement.{statement}

@@ -1,5 +1,5 @@
 use mathlib.Core.Path.{sym, _∙_}
-use Rattle.quorum.proofs.Lanes.{any-read}
+use Rattle.quorum.proofs.Sides.{any-read}
 use Rattle.quorum.proofs.Promise.{promise}
 use borrow.Author.Needs.{needs}
 use Rattle.quorum.proofs.holds_read_set.Statement.{statement}

@@ -1,6 +1,6 @@
 use native.Mathlib.Omega.{arith}
 use Prim.Native.Nat.{_+_, _*_}
-use Rattle.quorum.proofs.Lanes.{set-bytes}
+use Rattle.quorum.proofs.Sides.{set-bytes}
 use borrow.Author.Needs.{needs}
 use Rattle.quorum.proofs.load_set.Statement.{statement}
 use Rattle.quorum.proofs.load_set.Tie as tie

@@ -1,5 +1,5 @@
 use Rattle.quorum.specs.Sets.{used, holds}
-use Rattle.quorum.specs.Lanes.{placeHeld}
+use Rattle.quorum.specs.Inner.{placeHeld}
 use borrow.Author.Needs.{needs}
 use Rattle.quorum.proofs.place_held.Statement.{statement}
 use Rattle.quorum.proofs.place_held.Tie as tie

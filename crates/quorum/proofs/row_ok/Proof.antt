@@ -1,30 +1,31 @@
 use borrow.Author.Needs.{needs}
-use Prim.Native.Nat.{_+_, _-_, _≤_}
+use Prim.Native.Nat.{_-_, _≤_}
 use mathlib.Core.Path.{_≡_, sym}
+use lib.ListN.{getD}
 use Rattle.quorum.specs.Tests.{allBelow}
-use Rattle.quorum.specs.Configurations.{setAt}
-use Rattle.quorum.specs.Lanes.{pairOk, rowOk}
+use Rattle.quorum.specs.Sets.{shares}
+use Rattle.quorum.specs.Inner.{rowOk}
 use Rattle.quorum.proofs.Tests.{all-start, all-turn, all-end}
 use Rattle.quorum.proofs.row_ok.Statement.{statement}
 use Rattle.quorum.proofs.row_ok.Tie as tie
 
 abbrev Inv-loop : tie.InvT-loop
-Inv-loop config read ok₀ k₀ ok k = (k ≤ 8) × (ok ≡ allBelow (λ j. pairOk read (setAt config (8 + j))) k)
+Inv-loop read writes ok₀ k₀ ok k = (k ≤ 8) × (ok ≡ allBelow (λ j. shares read (getD writes j 0)) k)
 
 abbrev μ-loop : tie.MeasureT-loop
-μ-loop config read ok₀ k₀ ok k = 8 - k
+μ-loop read writes ok₀ k₀ ok k = 8 - k
 
 loop-holds : tie.Need-loop-holds Inv-loop μ-loop
 loop-holds c = (search needs, sym (all-start _))
 
-add-load-set : tie.Need-add-load-set Inv-loop μ-loop
-add-load-set c = search needs
+mul-share-station : tie.Need-mul-share-station Inv-loop μ-loop
+mul-share-station c = search needs
 
-load-set-requires : tie.Need-load-set-requires Inv-loop μ-loop
-load-set-requires c κs = search needs
+array-read-share-station : tie.Need-array-read-share-station Inv-loop μ-loop
+array-read-share-station c = search needs
 
-pair-ok-requires : tie.Need-pair-ok-requires Inv-loop μ-loop
-pair-ok-requires c κs = search needs
+share-station-requires : tie.Need-share-station-requires Inv-loop μ-loop
+share-station-requires c κs = search needs
 
 add-k : tie.Need-add-k Inv-loop μ-loop
 add-k c = search needs
@@ -33,7 +34,7 @@ loop-less : tie.Need-loop-less Inv-loop μ-loop
 loop-less c = search needs
 
 loop-again : tie.Need-loop-again Inv-loop μ-loop
-loop-again c = (search needs, all-turn _ _ (c .before .before .before .loop .inv .1) (rw (← c .before .load-set .ensures) (c .pair-ok .ensures)))
+loop-again c = (search needs, all-turn _ _ (c .before .before .loop .inv .1) (c .share-station .ensures))
 
 returns : tie.Need-returns Inv-loop μ-loop
 unfolding rowOk
@@ -46,9 +47,9 @@ row-ok-spec =
     Inv-loop
     μ-loop
     loop-holds
-    add-load-set
-    load-set-requires
-    pair-ok-requires
+    mul-share-station
+    array-read-share-station
+    share-station-requires
     add-k
     loop-less
     loop-again

@@ -1,4 +1,4 @@
-use Rattle.quorum.proofs.Lanes.{set-short, set-past}
+use Rattle.quorum.proofs.Sides.{set-short, set-past}
 use borrow.Author.Needs.{needs}
 use Rattle.quorum.proofs.set_at.Statement.{statement}
 use Rattle.quorum.proofs.set_at.Tie as tie

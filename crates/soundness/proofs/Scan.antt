@@ -1,0 +1,173 @@
+-- What the code's tests of soundness come to: bytes that are zero, configurations with the same bytes, the scan over the
+-- copies, and the list of tests in parts.
+use mathlib.Core.Path.{_≡_, refl, sym, ap, _∙_}
+use mathlib.Core.Bool.{Bool, true, false, _&&_, and-true, and-assoc}
+use mathlib.Core.List.{List, [], _∷_}
+use Prim.Native.Nat.{ℕ, zero, suc, _+_, _-_, _*_, _≤_, _<_, suc-le-suc}
+use native.Mathlib.Omega.{arith}
+use native.Mathlib.Nat.{add-zero, add-suc, mul-comm, suc-mul, zero-mul, mul-le-mul, le-of-suc-le-suc, le-antisymm, le-refl}
+use native.Mathlib.Numerals.{add-one}
+use lib.ListN.{length, getD, take, drop}
+use lib.Seq.{ext-getD, getD-take, getD-drop}
+use lib.Dec.{eqb}
+use borrow.Author.Tests.{eq-eqb, eqb-true, leb-true}
+use Rattle.quorum.specs.Tests.{all, allBelow}
+use Rattle.quorum.specs.Bytes.{number}
+use Rattle.quorum.specs.Configurations.{validAt, validTo}
+use Rattle.quorum.proofs.Tests.{clash, by-cases, same-test, and-left, and-right, and-both, all-true, all-below, below-all, all-same}
+use Rattle.quorum.proofs.Bytes.{number-none, number-suc}
+use Rattle.quorum.proofs.Same.{same-part}
+use Rattle.layout.specs.Layout.{spareAt, copyConfigAt, copySize, configSize, address, tableLength}
+use Rattle.layout.specs.Fields.{kindOf, change, stations, items, roundOf, copyFrom}
+use Rattle.layout.specs.Soundness.{isZero, roundSound, copiesValid, soundness, sound}
+use Rattle.soundness.specs.Scan.{sizeSound, headSound, configAt, copiesTo, sameByte, sameLane, sameBlock}
+use Rattle.layout.proofs.Numbers.{number-one}
+
+-- ---- bytes that are zero
+zero-sum : (a b : ℕ) → eqb (a + 256 * b) 0 ≡ (eqb a 0 && eqb b 0)
+zero-sum a b =
+    same-test (eqb (a + 256 * b) 0) (eqb a 0 && eqb b 0)
+    (λ e. let h = eqb-true (a + 256 * b) 0 e in and-both (eqb a 0) (eqb b 0) (eq-eqb a 0 (omega arith)) (eq-eqb b 0 (omega arith)))
+    (λ e. let h = eqb-true a 0 (and-left (eqb a 0) (eqb b 0) e) in let q = eqb-true b 0 (and-right (eqb a 0) (eqb b 0) e) in
+    eq-eqb (a + 256 * b) 0 (omega arith))
+
+first-zero : (t : List ℕ) (at k : ℕ) → isZero t at (suc k) ≡ (eqb (getD t at 0) 0 && isZero t (suc at) k)
+first-zero t at k = ap (λ x. eqb x 0) (number-suc t at k) ∙ zero-sum (getD t at 0) (number t (suc at) k)
+
+last-zero : (t : List ℕ) (at k : ℕ) → isZero t at (suc k) ≡ (isZero t at k && eqb (getD t (at + k) 0) 0)
+last-zero t at zero = rw (first-zero t at 0, number-none t at, add-zero at) (and-true _)
+last-zero t at (suc k) =
+    let e : at + suc k ≡ suc at + k = omega arith in
+    rw (first-zero t at (suc k), last-zero t (suc at) k, first-zero t at k, e, and-assoc)
+
+-- byte by byte
+pub bytes-zero : (t : List ℕ) (at width : ℕ) → allBelow (λ k. eqb (getD t (at + k) 0) 0) width ≡ isZero t at width
+unfolding allBelow
+bytes-zero t at zero = rw (number-none t at)
+bytes-zero t at (suc k) = rw (bytes-zero t at k, last-zero t at k)
+
+-- ---- configurations with the same bytes
+block-valid : (t : List ℕ) (n at : ℕ) → at + copySize * 8 + configSize ≤ length t → sameBlock t at ≡ true → validAt n t at ≡ true
+    → (j : ℕ) → j < 8 → validAt n t (at + copySize + copySize * j) ≡ true
+unfolding sameBlock sameLane
+block-valid t n at h e v j l =
+    let f : at + copySize + copySize * j + configSize ≤ length t = omega arith in
+    let g : at + configSize ≤ length t = omega arith in
+    rw (same-part t (at + copySize + copySize * j) at configSize f g byte) v
+  where
+    byte : (k : ℕ) → k < configSize → getD t (at + copySize + copySize * j + k) 0 ≡ getD t (at + k) 0
+    byte k m =
+        let q : at + copySize + copySize * j + k ≡ at + k + copySize + copySize * j = omega arith in
+        let lane = all-below (λ k. sameLane t (at + k)) configSize e k m in
+        rw q (eqb-true _ _ (all-below (λ j. sameByte t (at + k + copySize + copySize * j) (at + k)) 8 lane j l))
+
+-- ---- tests
+-- one that cannot pass fails
+pub fails : {b : Bool} → (b ≡ true → ⊥) → false ≡ b
+fails {b} h = by-cases (λ c. false ≡ c) b (λ e. absurd (h e)) (λ _. refl)
+
+-- the numbers below a sum, and below a product
+all-add : (p : ℕ → Bool) (a b : ℕ) → allBelow p (a + b) ≡ (allBelow p a && allBelow (λ j. p (a + j)) b)
+unfolding allBelow
+all-add p a zero = rw (add-zero a) (sym (and-true _))
+all-add p a (suc b) = rw (add-suc a b, all-add p a b, and-assoc)
+
+all-pairs : (p : ℕ → Bool) (n m : ℕ) → allBelow (λ i. allBelow (λ s. p (i * n + s)) n) m ≡ allBelow p (m * n)
+unfolding allBelow
+all-pairs p n zero = rw (zero-mul n)
+all-pairs p n (suc m) = rw (all-pairs p n m, suc-mul m n, all-add p (m * n) n)
+
+-- tests joined one after the other, as the code joins them, are those of the list
+abbrev pub joined : Bool → List Bool → Bool
+joined b [] = b
+joined b (a ∷ l) = joined (b && a) l
+
+pub joined-all : (b : Bool) (l : List Bool) → joined b l ≡ all (b ∷ l)
+unfolding all
+joined-all b [] = sym (and-true b)
+joined-all b (a ∷ l) = joined-all (b && a) l ∙ and-assoc b a (all l)
+
+all-split : (k : ℕ) (l : List Bool) → all l ≡ (all (take k l) && all (drop k l))
+unfolding all
+all-split zero l = refl
+all-split (suc k) [] = refl
+all-split (suc k) (b ∷ l) = ap (λ r. b && r) (all-split k l) ∙ sym (and-assoc b (all (take k l)) (all (drop k l)))
+
+-- ---- the scan
+module _ (t : List ℕ) (n : ℕ) where
+  -- where the copies before one are valid, each of them is, and those before each are
+  pub scan-at : (k j : ℕ) → j < k → copiesTo t n k ≡ true → validAt n t (configAt j) ≡ true
+  unfolding validTo
+  scan-at k j l h = all-below _ k h j l
+
+  pub scan-less : (j k : ℕ) → j ≤ k → copiesTo t n k ≡ true → copiesTo t n j ≡ true
+  unfolding validTo
+  scan-less j k l h = below-all _ j (λ i m. all-below _ k h i (omega arith))
+
+  -- eight copies that are the same as the one before them
+  pub scan-block : (k : ℕ) → 1 ≤ k → configAt k + copySize * 7 + configSize ≤ length t
+      → sameBlock t (configAt (k - 1)) ≡ true → copiesTo t n k ≡ true → copiesTo t n (k + 8) ≡ true
+  unfolding validTo
+  scan-block k p l e h =
+      rw (all-add (λ j. validAt n t (configAt j)) k 8, h) (below-all (λ j. validAt n t (configAt (k + j))) 8 (λ j m.
+      let f : configAt (k + j) ≡ configAt (k - 1) + copySize + copySize * j = omega arith in
+      rw f (block-valid t n (configAt (k - 1)) (omega arith) e (scan-at k (k - 1) (omega arith) h) j m)))
+
+-- the copies by item and station are the copies one after the other
+pub scan-copies : (t : List ℕ) → 1 ≤ stations t * items t → copiesTo t (stations t) (stations t * items t - 1 + 1) ≡ copiesValid t
+unfolding copiesValid validTo copyFrom address
+scan-copies t h =
+    let n = stations t in
+    let m = items t in
+    let e : n * m - 1 + 1 ≡ m * n = omega (arith, mul-comm n m) in
+    rw (e, ← all-pairs (λ k. validAt n t (configAt k)) n m) (all-same _ _ m (λ i _. all-same _ _ n (λ s _. ap (validAt n t) (place i s))))
+  where
+    place : (i s : ℕ) → configAt (i * stations t + s) ≡ address (stations t) i s + copyConfigAt
+    place i s = omega arith
+
+-- ---- soundness in the parts that the code tests
+abbrev pub roundFits : List ℕ → Bool
+roundFits t = roundSound t (roundOf t .kind)
+
+regrouped : (h r z c : Bool) → (h && (r && (z && (c && true)))) ≡ ((h && z) && (r && c))
+regrouped false r z c = refl
+regrouped true false false c = refl
+regrouped true false true c = refl
+regrouped true true false c = refl
+regrouped true true true c = and-true c
+
+pub sound-parts : (t : List ℕ) → sound t ≡ (sizeSound t && (headSound t && (roundFits t && copiesValid t)))
+unfolding sound soundness sizeSound headSound all
+sound-parts t =
+    let l = soundness t in
+    all-split 5 l ∙ ap (λ b. sizeSound t && b) (all-split 8 (drop 5 l) ∙ regrouped (all (take 8 (drop 5 l))) (roundFits t) (isZero t spareAt 4) (copiesValid t))
+
+pub record Size (t : List ℕ) : Type 0 where
+  pub long : length t ≡ tableLength (stations t) (items t)
+  pub some-stations : 1 ≤ stations t
+  pub few-stations : stations t ≤ 16
+  pub some-copies : 1 ≤ stations t * items t
+  pub few-copies : stations t * items t ≤ 512
+
+pub size-facts : (t : List ℕ) → sizeSound t ≡ true → Size t
+unfolding sizeSound soundness
+size-facts t e =
+    let h = all-true (take 5 (soundness t)) e in
+    record {
+      long = eqb-true _ _ (h .0);
+      some-stations = leb-true _ _ (h .1 .0);
+      few-stations = leb-true _ _ (h .1 .1 .0);
+      some-copies = mul-le-mul (leb-true _ _ (h .1 .0)) (leb-true _ _ (h .1 .1 .1 .0));
+      few-copies = mul-le-mul (leb-true _ _ (h .1 .1 .0)) (leb-true _ _ (h .1 .1 .1 .1 .0));
+    }
+
+-- before n and m are known to be in range: the product of two bytes
+pub bytes-product : (t : List ℕ) → getD t 0 0 < 256 → getD t 1 0 < 256 → stations t * items t ≤ 65025
+bytes-product t h g = rw (number-one t 0, number-one t 1) (mul-le-mul (le-of-suc-le-suc h) (le-of-suc-le-suc g))
+
+-- a kind of round above 2 counts as a change
+pub other-kind : (k : ℕ) → 3 ≤ k → kindOf k ≡ change
+other-kind zero h = absurd (omega arith)
+other-kind (suc zero) h = absurd (omega arith)
+other-kind (suc (suc zero)) h = absurd (omega arith)
+other-kind (suc (suc (suc k))) h = refl

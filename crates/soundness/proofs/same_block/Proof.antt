@@ -1,0 +1,50 @@
+use borrow.Author.Needs.{needs}
+use mathlib.Core.Path.{_≡_, sym}
+use Prim.Native.Nat.{_+_, _-_, _≤_}
+use Rattle.quorum.specs.Tests.{allBelow}
+use Rattle.quorum.proofs.Tests.{all-start, all-turn, all-end}
+use Rattle.soundness.specs.Scan.{sameLane, sameBlock}
+use Rattle.soundness.proofs.same_block.Statement.{statement}
+use Rattle.soundness.proofs.same_block.Tie as tie
+
+abbrev Inv-loop : tie.InvT-loop
+Inv-loop t at ok₀ k₀ ok k = (k ≤ 32) × (ok ≡ allBelow (λ i. sameLane t (at + i)) k)
+
+abbrev μ-loop : tie.MeasureT-loop
+μ-loop t at ok₀ k₀ ok k = 32 - k
+
+loop-holds : tie.Need-loop-holds Inv-loop μ-loop
+loop-holds c = (search needs, sym (all-start _))
+
+add-same-lane : tie.Need-add-same-lane Inv-loop μ-loop
+add-same-lane c = search needs
+
+same-lane-requires : tie.Need-same-lane-requires Inv-loop μ-loop
+same-lane-requires c κs = search needs
+
+add-k : tie.Need-add-k Inv-loop μ-loop
+add-k c = search needs
+
+loop-less : tie.Need-loop-less Inv-loop μ-loop
+loop-less c = search needs
+
+loop-again : tie.Need-loop-again Inv-loop μ-loop
+loop-again c = (search needs, all-turn _ _ (c .before .before .loop .inv .1) (c .same-lane .ensures))
+
+returns : tie.Need-returns Inv-loop μ-loop
+unfolding sameBlock
+returns c = all-end _ 32 _ (c .before .loop .inv .0) (c .loop-test .left) (c .before .loop .inv .1)
+
+pub same-block-spec : {M : Type 1} → statement M
+same-block-spec =
+    tie.close
+    (tie.spec
+    Inv-loop
+    μ-loop
+    loop-holds
+    add-same-lane
+    same-lane-requires
+    add-k
+    loop-less
+    loop-again
+    returns)
