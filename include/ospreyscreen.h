@@ -1,6 +1,6 @@
 /*
- * Ospreyscreen: replicated items in one lent table of bytes, as document 01
- * lays it down.
+ * Ospreyscreen: replicated items in one lent table of bytes, as document 01,
+ * the specification, lays it down.
  *
  * A station is a replica, an item a logical object, a round a logical access.
  * A table holds one copy of each of its m items at each of its n stations.
@@ -11,7 +11,10 @@
  * Rules for the caller:
  * - The table and the configuration that a call gets are lent for that call.
  *   They must not overlap. A null pointer goes with length 0 only.
- * - Calls on one table must not run at the same time.
+ * - len is the length of the table's buffer in bytes, and config_len and
+ *   target_len are that of the configuration's.
+ * - Calls on one table must not run at the same time. Calls on different
+ *   tables may: the library keeps no state of its own.
  * - A table needs no alignment. Nobody else writes it between calls.
  *
  * What every call keeps to:
@@ -32,6 +35,19 @@
 extern "C" {
 #endif
 
+/* The version of this header and of the library that belongs to it. */
+#define OSPREYSCREEN_VERSION_MAJOR 0
+#define OSPREYSCREEN_VERSION_MINOR 1
+#define OSPREYSCREEN_VERSION_PATCH 0
+#define OSPREYSCREEN_VERSION_STRING                                                                \
+    OSPREYSCREEN_DOTTED_(OSPREYSCREEN_VERSION_MAJOR, OSPREYSCREEN_VERSION_MINOR,                   \
+                         OSPREYSCREEN_VERSION_PATCH)
+
+/* Three numbers as text with dots between; for the macro above alone. */
+#define OSPREYSCREEN_DOTTED_(a, b, c)                                                              \
+    OSPREYSCREEN_TEXT_(a) "." OSPREYSCREEN_TEXT_(b) "." OSPREYSCREEN_TEXT_(c)
+#define OSPREYSCREEN_TEXT_(number) #number
+
 /* Limits and sizes; lengths are in bytes. */
 #define OSPREYSCREEN_STATIONS_MAX 16
 #define OSPREYSCREEN_ITEMS_MAX 32
@@ -41,8 +57,10 @@ extern "C" {
 #define OSPREYSCREEN_CONFIGURATION_LENGTH 32
 #define OSPREYSCREEN_TABLE_LENGTH_MAX 28728
 
-/* The only length that fits a table of n stations and m items. */
-#define OSPREYSCREEN_TABLE_LENGTH(n, m) (56u * (1u + 1u * (n) * (m)))
+/* The only length that fits a table of n stations, 1 to 16, and m items, 1 to
+ * 32. */
+#define OSPREYSCREEN_TABLE_LENGTH(n, m)                                                            \
+    (1u * OSPREYSCREEN_HEAD_LENGTH + 1u * OSPREYSCREEN_COPY_LENGTH * (n) * (m))
 
 /* The number of a reply. */
 enum ospreyscreen_number {
@@ -53,7 +71,7 @@ enum ospreyscreen_number {
     OSPREYSCREEN_BUSY = 4,                /* an opening while a round is open */
     OSPREYSCREEN_IDLE = 5,                /* no round is open */
     OSPREYSCREEN_OFF_THE_BUS = 6,         /* the station is off */
-    OSPREYSCREEN_READING_OVER = 7,        /* a poll after a put */
+    OSPREYSCREEN_READING_OVER = 7,        /* a poll while a put set is not empty */
     OSPREYSCREEN_UNHEARD = 8,             /* the polled stations hold no read set */
     OSPREYSCREEN_WRONG_PUT = 9,           /* a put in a read, or a configuration put in a write */
     OSPREYSCREEN_SPENT = 10,              /* the version or generation to be raised is 2^64 - 1 */
@@ -126,20 +144,23 @@ ospreyscreen_reply ospreyscreen_lay(uint8_t *table, size_t len, uint64_t n, uint
                                     uint64_t value, const uint8_t *config, size_t config_len);
 
 /*
- * Opens a round that reads the item.
+ * Opens a round that reads the item: its commit gives the value.
  * Refusals: 1 table, 2 item, 4 a round is open.
  */
 ospreyscreen_reply ospreyscreen_open_read(uint8_t *table, size_t len, uint64_t item);
 
 /*
- * Opens a round that writes the value to the item.
+ * Opens a round that writes the value to the item. The value waits in the
+ * table's head until the commit.
  * Refusals: 1 table, 2 item, 4 a round is open.
  */
 ospreyscreen_reply ospreyscreen_open_write(uint8_t *table, size_t len, uint64_t item,
                                            uint64_t value);
 
 /*
- * Opens a round that changes the item's configuration to the target.
+ * Opens a round that changes the item's configuration to the target, which is
+ * 32 bytes as at lay. The target waits in the table's head until the commit;
+ * other items keep their configurations.
  * Refusals: 1 table, 2 item, 3 the target, 4 a round is open.
  */
 ospreyscreen_reply ospreyscreen_open_change(uint8_t *table, size_t len, uint64_t item,
@@ -147,7 +168,8 @@ ospreyscreen_reply ospreyscreen_open_change(uint8_t *table, size_t len, uint64_t
 
 /*
  * Polls the station: its copy now counts in the round. Polling a station
- * again changes nothing.
+ * again changes nothing. Polls come before puts: a poll gets 7 while any put
+ * stands, and is allowed again if drops have emptied both put sets.
  * Figures: first is 1 if the round is now heard, else 0. A round is heard if
  * the polled set holds a read set of the configuration found, which is the
  * one of the highest generation among the polled copies.
@@ -167,7 +189,16 @@ ospreyscreen_reply ospreyscreen_poll(uint8_t *table, size_t len, uint64_t statio
 ospreyscreen_reply ospreyscreen_put(uint8_t *table, size_t len, uint64_t station, uint64_t sort);
 
 /*
- * Finishes the round: every put takes effect, and the round closes.
+ * Finishes the round: every put takes effect, and the round closes. What was
+ * found is what the polled copies give: version and value of the highest
+ * version, generation and configuration of the highest generation, the lowest
+ * station on equal numbers.
+ * - A write stores its value, with the version found plus one, in the copies
+ *   with a data put.
+ * - A change stores the version and value found in the copies with a data
+ *   put, and the target, with the generation found plus one, in the copies
+ *   with a configuration put. It does not raise the version.
+ * - A read stores nothing.
  * Figures: the item's value, version and generation after the round.
  * Refusals: 1 table, 5 no round, 8 the round is not heard, 10 the version
  * found (a write) or the generation found (a change) is 2^64 - 1, 11 the data
