@@ -1,8 +1,10 @@
 # Ospreyscreen.
 #
 #   make run         the frame runner on examples/first-reading.hex, each reply beside its meaning
+#                    (SCRIPT=file for another file of frames)
 #   make lib         build/libospreyscreen.a and build/ospreyscreen.h, proved
-#   make example     builds examples/first_reading.c with the library and runs it
+#   make example     builds examples/first_reading.c and examples/season.c with the library and runs them
+#   make stack       the library's largest stack frame and its deepest chain of calls
 #   make install     the library, the header and a pkg-config file, below PREFIX (and DESTDIR)
 #   make test        the gate (.ci/run), then the host tests
 #   make test-host   the library and the runner against an independent implementation, under a minute
@@ -12,16 +14,19 @@
 
 PREFIX ?= /usr/local
 DESTDIR ?=
-VERSION := 0.1.0
+# The header has the version; here it is put together for pkg-config.
+VERSION := $(shell awk '$$2 ~ /^OSPREYSCREEN_VERSION_(MAJOR|MINOR|PATCH)$$/ { printf dot $$3; dot = "." }' \
+    include/ospreyscreen.h)
 
 LIB := build/libospreyscreen.a
 HEADER := build/ospreyscreen.h
 RUNNER := target/bin/frame_runner
 SCRIPT ?= examples/first-reading.hex
-HOST := $(MAKE) -f tests/host/host.mk LIB=$(LIB) RUNNER=$(RUNNER)
+EXAMPLES := build/first_reading build/season
+HOST := -f tests/host/host.mk LIB=$(LIB) RUNNER=$(RUNNER)
 SOURCES := crates.txt $(shell find crates -name '*.rt' -o -name '*.antt')
 
-.PHONY: run lib example install test test-host soak bench clean
+.PHONY: run lib example stack install test test-host soak bench clean
 
 lib: $(LIB) $(HEADER)
 
@@ -42,9 +47,15 @@ $(RUNNER): $(SOURCES)
 run: $(RUNNER)
 	$(RUNNER) < $(SCRIPT) | tools/frames decode --beside
 
-example: lib
-	$(CC) -std=c11 -Wall -Wextra -Ibuild examples/first_reading.c $(LIB) -o build/first_reading
+$(EXAMPLES): build/%: examples/%.c $(LIB) $(HEADER)
+	$(CC) -std=c11 -Wall -Wextra -Ibuild $< $(LIB) -o $@
+
+example: $(EXAMPLES)
 	build/first_reading
+	build/season
+
+stack: $(LIB)
+	tools/stack $(LIB)
 
 install: lib
 	install -d $(DESTDIR)$(PREFIX)/lib/pkgconfig $(DESTDIR)$(PREFIX)/include
@@ -58,7 +69,7 @@ test:
 	$(MAKE) test-host
 
 test-host soak bench: $(LIB) $(RUNNER)
-	$(HOST) $@
+	$(MAKE) $(HOST) $@
 
 clean:
 	rm -rf build target

@@ -12,10 +12,12 @@ enum { STATIONS = 3, ITEMS = 1, ITEM = 0 };
 
 static uint8_t table[OSPREYSCREEN_TABLE_LENGTH(STATIONS, ITEMS)];
 
-/* Any two of the three stations are a read quorum and a write quorum: the
- * sets 0003, 0005 and 0006 on both sides. */
+/* Any two of the three stations are a read quorum and a write quorum. A set is
+ * two bytes, the low one first, with bit i for station i: 3 is stations 0 and
+ * 1, 5 is 0 and 2, 6 is 1 and 2. Places that are not used are zero. */
 static const uint8_t pairs[OSPREYSCREEN_CONFIGURATION_LENGTH] = {
-    3, 0, 5, 0, 6, 0, [16] = 3, 0, 5, 0, 6, 0,
+    3, 0, 5, 0, 6, 0, 0, 0, 0, 0, 0, 0, 0, 0, 0, 0, /* eight read sets */
+    3, 0, 5, 0, 6, 0, 0, 0, 0, 0, 0, 0, 0, 0, 0, 0, /* eight write sets */
 };
 
 /* The reply, if the call was done. */

@@ -33,11 +33,13 @@ SANITIZE := -fsanitize=address,undefined -fno-sanitize-recover=all -fno-omit-fra
 
 DIFFERENTIAL := differential book calls configurations damage generate guard optimised reference
 BENCH := bench calls configurations optimised
-PROGRAMS := differential runner ref_runner random_frames cuts bench throughput first_reading
+EXAMPLES := first_reading season
+PROGRAMS := differential runner ref_runner random_frames cuts bench throughput format_dump
 
 vpath %.c tests/host bench examples
 
-.PHONY: build test-host soak bench clean test-header test-calls test-frames test-tool test-example
+.PHONY: build test-host soak bench clean test-header test-calls test-frames test-tool test-example \
+    test-readme test-docs
 .DELETE_ON_ERROR:
 
 build: $(PROGRAMS:%=$(PLAIN)/%) $(CHECKED)/differential $(CHECKED)/runner
@@ -54,10 +56,12 @@ $(PLAIN) $(CHECKED):
 # The library, or what stands in for it, in either kind of build.
 PLAIN_LIB := $(if $(LIB),$(LIB),$(PLAIN)/standin.o)
 CHECKED_LIB := $(if $(LIB),$(LIB),$(CHECKED)/standin.o)
+PLAIN_LINK := $(PLAIN_LIB) $(if $(LIB),,$(PLAIN)/optimised.o)
+CHECKED_LINK := $(CHECKED_LIB) $(if $(LIB),,$(CHECKED)/optimised.o)
 
 $(PLAIN)/differential: $(DIFFERENTIAL:%=$(PLAIN)/%.o) $(PLAIN_LIB)
 $(PLAIN)/bench: $(BENCH:%=$(PLAIN)/%.o) $(PLAIN_LIB)
-$(PLAIN)/first_reading: $(PLAIN)/first_reading.o $(PLAIN_LIB) $(if $(LIB),,$(PLAIN)/optimised.o)
+$(PLAIN)/format_dump: $(PLAIN)/format_dump.o $(PLAIN_LINK)
 $(PLAIN)/runner: $(PLAIN)/runner.o $(PLAIN)/optimised.o
 $(PLAIN)/ref_runner: $(PLAIN)/ref_runner.o $(PLAIN)/reference.o
 $(PLAIN)/random_frames: $(PLAIN)/random_frames.o $(PLAIN)/configurations.o
@@ -71,7 +75,26 @@ $(CHECKED)/runner: $(CHECKED)/runner.o $(CHECKED)/optimised.o
 $(CHECKED)/differential $(CHECKED)/runner:
 	$(CC) $(SANITIZE) $^ $(LDLIBS) -o $@
 
-test-host: test-header test-calls test-frames test-tool test-example
+# The examples as C, as C with the sanitizers, and as C++ of two standards.
+C_EXAMPLES := $(EXAMPLES:%=$(PLAIN)/c11/%)
+CHECKED_EXAMPLES := $(EXAMPLES:%=$(CHECKED)/c11/%)
+CXX_EXAMPLES := $(EXAMPLES:%=$(PLAIN)/c++17/%) $(EXAMPLES:%=$(PLAIN)/c++20/%)
+
+$(C_EXAMPLES): $(PLAIN)/c11/%: $(PLAIN)/%.o $(PLAIN_LINK)
+	mkdir -p $(@D)
+	$(CC) $^ $(LDLIBS) -o $@
+
+$(CHECKED_EXAMPLES): $(CHECKED)/c11/%: $(CHECKED)/%.o $(CHECKED_LINK)
+	mkdir -p $(@D)
+	$(CC) $(SANITIZE) $^ $(LDLIBS) -o $@
+
+# The directory's name is the standard's.
+$(CXX_EXAMPLES): $(EXAMPLES:%=examples/%.c) include/ospreyscreen.h $(PLAIN_LINK)
+	mkdir -p $(@D)
+	$(CXX) -x c++ -std=$(notdir $(@D)) $(WARNINGS) -Iinclude examples/$(@F).c \
+	    -x none $(PLAIN_LINK) $(LDLIBS) -o $@
+
+test-host: test-header test-calls test-frames test-tool test-example test-readme test-docs
 
 # The header alone, as each language that firmware is written in.
 test-header:
@@ -103,9 +126,26 @@ test-frames: build
 test-tool:
 	python3 tests/host/test_frames_tool.py
 
-test-example: build
-	$(PLAIN)/first_reading > $(OUT)/first_reading.out
-	echo "value 510, version 1, generation 0" | cmp - $(OUT)/first_reading.out
+# What each example prints stands beside it.
+EXAMPLE_PROGRAMS := $(C_EXAMPLES) $(CHECKED_EXAMPLES) $(CXX_EXAMPLES)
+test-example: $(EXAMPLE_PROGRAMS)
+	for program in $(EXAMPLE_PROGRAMS); do \
+	    $$program > $(OUT)/example.out && \
+	    cmp $(OUT)/example.out examples/$$(basename $$program).expected || exit 1; \
+	done
+
+# The README's C snippet, as C and as C++.
+SNIPPET := $(OUT)/snippet
+test-readme: $(PLAIN_LINK) | $(PLAIN)
+	python3 tests/host/readme_snippet.py < README.md > $(SNIPPET).c
+	$(CC) -std=c11 $(WARNINGS) -Iinclude $(SNIPPET).c $^ $(LDLIBS) -o $(SNIPPET)
+	$(SNIPPET)
+	$(CXX) -x c++ -std=c++17 $(WARNINGS) -Iinclude $(SNIPPET).c -x none $^ $(LDLIBS) -o $(SNIPPET)
+	$(SNIPPET)
+
+# Every session, configuration, dump and file name in the documents.
+test-docs: build
+	python3 tests/host/test_docs.py $(RUNNER) $(PLAIN)/format_dump
 
 soak: CALLS = 10000000
 soak: LINES = 10000000

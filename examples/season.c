@@ -1,0 +1,443 @@
+/*
+ * A season of one house: five stations, four items. Stations drop and return
+ * with old copies, also in the middle of a round. The configuration of every
+ * item is changed twice while readings go on; the second change retires
+ * station 4. Every finished round is compared with a plain record that this
+ * program keeps for itself.
+ *
+ * The parts to copy are advice_on, which has a branch for every number that a
+ * call can give, and run_round, which brings a round to its end.
+ */
+#include "ospreyscreen.h"
+
+#include <inttypes.h>
+#include <stdbool.h>
+#include <stdio.h>
+#include <stdlib.h>
+
+enum { STATIONS = 5, ITEMS = 4, DAYS = 200, PHASES = 3, ATTEMPTS = 3, START = 500 };
+enum { INTERRUPTED_DAY = 30, REGROUP_DAY = 60, RETIRE_DAY = 120, RETIRED = 4 };
+
+static uint8_t table[OSPREYSCREEN_TABLE_LENGTH(STATIONS, ITEMS)];
+
+/* ---- Configurations ---- */
+
+/* A configuration as sets: bit i is station i, unused places are zero. */
+typedef struct {
+    uint16_t read[OSPREYSCREEN_SETS_PER_SIDE];
+    uint16_t write[OSPREYSCREEN_SETS_PER_SIDE];
+} configuration;
+
+/* docs/GUIDE.md has these three and what each survives. */
+static const configuration phases[PHASES] = {
+    /* Station 0 counts twice: three votes of six read, four write. */
+    {{0x0003, 0x0005, 0x0009, 0x000E, 0x0011, 0x0016, 0x001A, 0x001C},
+     {0x0007, 0x000B, 0x000D, 0x0013, 0x0015, 0x0019, 0x001E}},
+    /* Eight of the ten sets of three. */
+    {{0x0007, 0x000B, 0x000D, 0x000E, 0x0013, 0x0015, 0x001A, 0x001C},
+     {0x0007, 0x000B, 0x000D, 0x000E, 0x0013, 0x0015, 0x001A, 0x001C}},
+    /* Station 4 is in no set: two of four read, three write. */
+    {{0x0003, 0x0005, 0x0006, 0x0009, 0x000A, 0x000C}, {0x0007, 0x000B, 0x000D, 0x000E}},
+};
+
+/* The 32 bytes of the sets, each low byte first. */
+static void to_bytes(const configuration *from, uint8_t to[OSPREYSCREEN_CONFIGURATION_LENGTH])
+{
+    for (size_t i = 0; i < OSPREYSCREEN_SETS_PER_SIDE; i++) {
+        uint8_t *read = to + 2 * i;
+        uint8_t *write = read + 2 * OSPREYSCREEN_SETS_PER_SIDE;
+        read[0] = (uint8_t)(from->read[i] & 0xFF);
+        read[1] = (uint8_t)(from->read[i] >> 8);
+        write[0] = (uint8_t)(from->write[i] & 0xFF);
+        write[1] = (uint8_t)(from->write[i] >> 8);
+    }
+}
+
+/* ---- Refusals ---- */
+
+/* What to do after a reply. */
+typedef enum {
+    GO_ON,         /* the call was done */
+    TRY_ANOTHER,   /* this station is off: take another one */
+    STOP_POLLING,  /* puts stand, so the round is heard: no poll is needed */
+    POLL_MORE,     /* no read set has been polled yet */
+    PUT_MORE,      /* the puts hold no write set */
+    CLOSE_FIRST,   /* commit or abandon the round that is open, then open again */
+    OPEN_FIRST,    /* there is no round: open one */
+    READ_ONLY,     /* the item's counter is at its end: it can be read only */
+    RESTORE,       /* the table was damaged: bring back a saved one, or lay anew */
+    MEND_PROGRAM   /* a wrong argument or a call in the wrong round */
+} advice;
+
+static unsigned long seen[OSPREYSCREEN_FALSE_FRAME + 1];
+
+/* The branch of each number. Which call can give which is in the header. */
+static advice advice_on(ospreyscreen_reply reply)
+{
+    if (reply.number <= OSPREYSCREEN_FALSE_FRAME) {
+        seen[reply.number]++;
+    }
+    switch (reply.number) {
+    case OSPREYSCREEN_DONE:
+        return GO_ON;
+    case OSPREYSCREEN_UNSOUND:
+        return RESTORE;
+    case OSPREYSCREEN_NO_SUCH_THING:
+        return MEND_PROGRAM;
+    case OSPREYSCREEN_FALSE_CONFIGURATION:
+        return MEND_PROGRAM;
+    case OSPREYSCREEN_BUSY:
+        return CLOSE_FIRST;
+    case OSPREYSCREEN_IDLE:
+        return OPEN_FIRST;
+    case OSPREYSCREEN_OFF_THE_BUS:
+        return TRY_ANOTHER;
+    case OSPREYSCREEN_READING_OVER:
+        return STOP_POLLING;
+    case OSPREYSCREEN_UNHEARD:
+        return POLL_MORE;
+    case OSPREYSCREEN_WRONG_PUT:
+        return MEND_PROGRAM;
+    case OSPREYSCREEN_SPENT:
+        return READ_ONLY;
+    case OSPREYSCREEN_SHORT:
+        return PUT_MORE;
+    default: /* 12 comes from the frame runner alone */
+        return MEND_PROGRAM;
+    }
+}
+
+/* Ends the program where firmware would restore a table or raise an alarm. */
+static void fail(const char *call, ospreyscreen_reply reply)
+{
+    fprintf(stderr, "%s: refused, %" PRIu64 "\n", call, reply.number);
+    exit(EXIT_FAILURE);
+}
+
+/* For calls that only a damaged table or a wrong program has refused. */
+static ospreyscreen_reply must(const char *call, ospreyscreen_reply reply)
+{
+    if (advice_on(reply) != GO_ON) {
+        fail(call, reply);
+    }
+    return reply;
+}
+
+/* ---- The bus ---- */
+
+static uint64_t wired = STATIONS; /* stations below it are in use */
+static uint32_t weather = 1;
+
+/* A number below the sides given, the same in every run. */
+static uint32_t roll(uint32_t sides)
+{
+    weather = weather * 1664525u + 1013904223u;
+    return (weather >> 16) % sides;
+}
+
+static void link_station(uint64_t station, uint64_t state)
+{
+    must("link", ospreyscreen_link(table, sizeof table, station, state));
+}
+
+/* Overnight some stations drop, and some of those that were off return. */
+static void night(void)
+{
+    for (uint64_t s = 0; s < wired; s++) {
+        if (roll(6) == 0) {
+            link_station(s, OSPREYSCREEN_LINK_OFF);
+        } else if (roll(2) == 0) {
+            link_station(s, OSPREYSCREEN_LINK_ON);
+        }
+    }
+}
+
+/* Now and then a station drops between the puts and the commit. */
+static void gust(void)
+{
+    if (roll(4) == 0) {
+        link_station(roll((uint32_t)wired), OSPREYSCREEN_LINK_OFF);
+    }
+}
+
+/* ---- Rounds ---- */
+
+/* A round to be run; value is for a write, target for a change. */
+typedef struct {
+    enum ospreyscreen_round kind;
+    uint64_t item;
+    uint64_t value;
+    const configuration *target;
+} plan;
+
+static ospreyscreen_reply open_once(const plan *p)
+{
+    uint8_t target[OSPREYSCREEN_CONFIGURATION_LENGTH];
+
+    switch (p->kind) {
+    case OSPREYSCREEN_ROUND_WRITE:
+        return ospreyscreen_open_write(table, sizeof table, p->item, p->value);
+    case OSPREYSCREEN_ROUND_CHANGE:
+        to_bytes(p->target, target);
+        return ospreyscreen_open_change(table, sizeof table, p->item, target, sizeof target);
+    default:
+        return ospreyscreen_open_read(table, sizeof table, p->item);
+    }
+}
+
+/* Opens the round; one that somebody left open is given up first. */
+static void open_round(const plan *p)
+{
+    ospreyscreen_reply reply = open_once(p);
+
+    switch (advice_on(reply)) {
+    case GO_ON:
+        return;
+    case CLOSE_FIRST:
+        must("abandon", ospreyscreen_abandon(table, sizeof table));
+        must("open", open_once(p));
+        return;
+    default:
+        fail("open", reply);
+    }
+}
+
+/* Polls from station 0 on until the round is heard; tells whether it is. */
+static bool hear(void)
+{
+    for (uint64_t s = 0; s < wired; s++) {
+        ospreyscreen_reply reply = ospreyscreen_poll(table, sizeof table, s);
+        switch (advice_on(reply)) {
+        case GO_ON:
+            if (reply.first == 1) {
+                return true;
+            }
+            break;
+        case TRY_ANOTHER:
+            break;
+        case STOP_POLLING:
+            return true;
+        default:
+            fail("poll", reply);
+        }
+    }
+    return false;
+}
+
+/* Puts at every station on the bus, so that as many copies as possible are
+ * new. Tells whether the item can still be written (number 10: it cannot). */
+static bool put_everywhere(uint64_t sort)
+{
+    for (uint64_t s = 0; s < wired; s++) {
+        ospreyscreen_reply reply = ospreyscreen_put(table, sizeof table, s, sort);
+        switch (advice_on(reply)) {
+        case GO_ON:
+        case TRY_ANOTHER:
+            break;
+        case READ_ONLY:
+            return false;
+        default:
+            fail("put", reply);
+        }
+    }
+    return true;
+}
+
+/* A change also puts the new configuration wherever it puts the data: a
+ * later round finds it only at copies that have it. */
+static bool put_for(enum ospreyscreen_round kind)
+{
+    switch (kind) {
+    case OSPREYSCREEN_ROUND_WRITE:
+        return put_everywhere(OSPREYSCREEN_PUT_DATA);
+    case OSPREYSCREEN_ROUND_CHANGE:
+        return put_everywhere(OSPREYSCREEN_PUT_DATA) &&
+               put_everywhere(OSPREYSCREEN_PUT_CONFIGURATION);
+    default:
+        return true;
+    }
+}
+
+/* Runs the round and tells whether it was finished, with its figures. A
+ * station that drops takes its put along, so a short round is tried again;
+ * one that gets nowhere is abandoned, and no copy has changed. */
+static bool run_round(const plan *p, ospreyscreen_reply *figures)
+{
+    open_round(p);
+    for (int attempt = 0; attempt < ATTEMPTS && hear() && put_for(p->kind); attempt++) {
+        gust();
+        *figures = ospreyscreen_commit(table, sizeof table);
+        advice next = advice_on(*figures);
+        if (next == GO_ON) {
+            return true;
+        }
+        if (next == READ_ONLY) {
+            break;
+        }
+        if (next != POLL_MORE && next != PUT_MORE) {
+            fail("commit", *figures);
+        }
+        night(); /* time goes by, and stations may return */
+    }
+    must("abandon", ospreyscreen_abandon(table, sizeof table));
+    return false;
+}
+
+/* ---- The record ---- */
+
+/* What a single copy of each item would hold. */
+typedef struct {
+    uint64_t value;
+    uint64_t version;
+    uint64_t generation;
+} entry;
+
+static entry record[ITEMS];
+static unsigned long finished[OSPREYSCREEN_ROUND_CHANGE + 1];
+static unsigned long given_up[OSPREYSCREEN_ROUND_CHANGE + 1];
+
+/* Every finished round has to show what the record has. */
+static void check(uint64_t item, ospreyscreen_reply figures)
+{
+    const entry *e = &record[item];
+
+    if (figures.first != e->value || figures.second != e->version ||
+        figures.third != e->generation) {
+        fprintf(stderr, "item %" PRIu64 " does not agree with the record\n", item);
+        exit(EXIT_FAILURE);
+    }
+}
+
+/* Runs the round and keeps the record beside it. */
+static bool run_and_check(const plan *p)
+{
+    ospreyscreen_reply figures;
+
+    if (!run_round(p, &figures)) {
+        given_up[p->kind]++;
+        return false;
+    }
+    finished[p->kind]++;
+    if (p->kind == OSPREYSCREEN_ROUND_WRITE) {
+        record[p->item].value = p->value;
+        record[p->item].version++;
+    } else if (p->kind == OSPREYSCREEN_ROUND_CHANGE) {
+        record[p->item].generation++;
+    }
+    check(p->item, figures);
+    return true;
+}
+
+/* ---- The season ---- */
+
+/* Lays the table: the one call that needs no sound table. */
+static void lay_house(void)
+{
+    uint8_t first[OSPREYSCREEN_CONFIGURATION_LENGTH];
+
+    to_bytes(&phases[0], first);
+    must("lay", ospreyscreen_lay(table, sizeof table, STATIONS, ITEMS, START, first, sizeof first));
+    for (size_t i = 0; i < ITEMS; i++) {
+        record[i].value = START;
+    }
+}
+
+/* The phase that the items are to be in on the day. */
+static unsigned phase_of_day(int day)
+{
+    return day < REGROUP_DAY ? 0 : day < RETIRE_DAY ? 1 : 2;
+}
+
+/* A change that could not be finished is tried again the next day. Tells
+ * whether every item has come to the phase. */
+static bool change_towards(unsigned phase)
+{
+    static unsigned phase_of[ITEMS];
+    bool all = true;
+
+    for (uint64_t item = 0; item < ITEMS; item++) {
+        if (phase_of[item] < phase) {
+            plan p = {OSPREYSCREEN_ROUND_CHANGE, item, 0, &phases[phase_of[item] + 1]};
+            if (run_and_check(&p)) {
+                phase_of[item]++;
+            }
+        }
+        all = all && phase_of[item] == phase;
+    }
+    return all;
+}
+
+/* Once no item has the station in a set, it goes off for good. */
+static void retire(void)
+{
+    link_station(RETIRED, OSPREYSCREEN_LINK_OFF);
+    wired = RETIRED;
+}
+
+static void write_and_read(int day)
+{
+    for (uint64_t item = 0; item < ITEMS; item++) {
+        plan write = {OSPREYSCREEN_ROUND_WRITE, item, 1000 * item + (uint64_t)day, NULL};
+        plan read = {OSPREYSCREEN_ROUND_READ, item, 0, NULL};
+        run_and_check(&write);
+        night();
+        run_and_check(&read);
+    }
+}
+
+/* A reader is interrupted and leaves its round open. */
+static void leave_a_round_open(void)
+{
+    must("open", ospreyscreen_open_read(table, sizeof table, 0));
+}
+
+static void run_season(void)
+{
+    for (int day = 1; day <= DAYS; day++) {
+        night();
+        if (day == INTERRUPTED_DAY) {
+            leave_a_round_open();
+        }
+        if (change_towards(phase_of_day(day)) && day >= RETIRE_DAY) {
+            retire();
+        }
+        write_and_read(day);
+    }
+}
+
+/* ---- What came of it ---- */
+
+static void print_rounds(const char *name, enum ospreyscreen_round kind)
+{
+    printf("%s: %lu finished, %lu given up\n", name, finished[kind], given_up[kind]);
+}
+
+static void print_summary(void)
+{
+    print_rounds("reads", OSPREYSCREEN_ROUND_READ);
+    print_rounds("writes", OSPREYSCREEN_ROUND_WRITE);
+    print_rounds("changes", OSPREYSCREEN_ROUND_CHANGE);
+    for (int number = OSPREYSCREEN_UNSOUND; number <= OSPREYSCREEN_FALSE_FRAME; number++) {
+        if (seen[number] != 0) {
+            printf("refused with %d: %lu\n", number, seen[number]);
+        }
+    }
+    for (uint64_t s = 0; s < wired; s++) {
+        link_station(s, OSPREYSCREEN_LINK_ON);
+    }
+    for (uint64_t item = 0; item < ITEMS; item++) {
+        ospreyscreen_reply reach = must("reach", ospreyscreen_reach(table, sizeof table, item));
+        printf("item %" PRIu64 ": value %" PRIu64 ", version %" PRIu64 ", generation %" PRIu64
+               ", reach %" PRIu64 "\n",
+               item, record[item].value, record[item].version, record[item].generation,
+               reach.first);
+    }
+}
+
+int main(void)
+{
+    lay_house();
+    run_season();
+    print_summary();
+    return EXIT_SUCCESS;
+}
