@@ -1,0 +1,139 @@
+"""Holds the documents to the programs and the files that they speak of.
+
+usage: test_docs.py RUNNER FORMAT_DUMP
+
+- Blocks that begin with ```frames: words of tools/frames, each followed by a
+  line with # and the reply. The runner has to give these replies. A block that
+  does not begin with a lay goes on from the block before it.
+- Blocks that begin with ```configuration: what a configuration of n stations
+  survives, its words and its bytes. The runner has to find it valid, and is
+  asked for the reach with every set of stations off the bus.
+- The block that begins with ```dump: FORMAT_DUMP has to print the same bytes.
+- Names of files and folders: each has to be there.
+"""
+
+import itertools
+import math
+import pathlib
+import re
+import subprocess
+import sys
+import unittest
+
+ROOT = pathlib.Path(__file__).resolve().parents[2]
+FRAMES = [sys.executable, str(ROOT / "tools" / "frames")]
+DOCUMENTS = [ROOT / "README.md", *sorted((ROOT / "docs").glob("*.md"))]
+RUNNER, FORMAT_DUMP = "", ""
+
+SURVIVES = re.compile(r"(?:reads|writes) survive (?:no|any (\d+)) drops?(?:, and (\d+) of (\d+) choices of (\d+))?")
+PATH = re.compile(r"`([\w.*-]+(?:/[\w.*-]+)*/?)`")
+MADE = ("build/", "target/")
+NOTHING, READ = 0, 1
+
+
+def output_of(command, text=""):
+    result = subprocess.run(command, input=text, capture_output=True, text=True, check=True)
+    return result.stdout
+
+
+def replies_to(words):
+    """The words of the runner's replies to the words of frames."""
+    frames = output_of([*FRAMES, "encode"], "\n".join(words) + "\n")
+    return output_of([*FRAMES, "decode"], output_of([RUNNER], frames)).splitlines()
+
+
+def blocks(document, kind):
+    """The blocks of the kind, each a list of lines that are not empty."""
+    found = re.findall(rf"^```{kind}\n(.*?)^```$", document.read_text(), re.MULTILINE | re.DOTALL)
+    return [[line for line in block.splitlines() if line.strip()] for block in found]
+
+
+def all_blocks(kind):
+    return [(document.name, block) for document in DOCUMENTS for block in blocks(document, kind)]
+
+
+# ---- What a configuration survives ----
+
+def reaches(n, words, drops):
+    """The reach of an item with each choice of so many stations off."""
+    script, choices = [], list(itertools.combinations(range(n), drops))
+    for choice in choices:
+        script.append(f"lay {n} 1 0 {words}")
+        script += [f"link {station} off" for station in choice]
+        script.append("reach 0")
+    replies = [reply for reply in replies_to(script) if reply.startswith("reach: done")]
+    assert len(replies) == len(choices), f"not valid: {words}"
+    return [int(reply.split()[2]) for reply in replies]
+
+
+def survives(n, words, above):
+    """How many drops any choice of survives, and the choices of one more."""
+    for drops in range(n + 1):
+        good = sum(reach > above for reach in reaches(n, words, drops))
+        if good < math.comb(n, drops):
+            return drops - 1, good, math.comb(n, drops), drops
+    return None
+
+
+class Documents(unittest.TestCase):
+    def test_sessions(self):
+        session = []
+        for name, block in all_blocks("frames"):
+            words = [line for line in block if not line.startswith("#")]
+            expected = [line.lstrip("# ") for line in block if line.startswith("#")]
+            session = words if words[0].startswith("lay") else session + words
+            with self.subTest(document=name, words=words[:2]):
+                self.assertEqual(replies_to(session)[-len(words):], expected)
+
+    def test_configurations(self):
+        for name, block in all_blocks("configuration"):
+            stations, *claims, words, digits = block
+            with self.subTest(document=name, words=words):
+                n = int(stations.split()[0])
+                frame = output_of([*FRAMES, "encode"], f"open change 0 {words}\n").strip()
+                self.assertEqual(frame, "0400" + digits)
+                for claim, above in zip(claims, (NOTHING, READ), strict=True):
+                    said = [int(number or 0) for number in SURVIVES.fullmatch(claim).groups()]
+                    any_drops, good, choices, drops = survives(n, words, above)
+                    more = [good, choices, drops] if good else [0, 0, 0]
+                    self.assertEqual(said, [any_drops, *more], claim)
+
+    def test_dump(self):
+        printed = output_of([FORMAT_DUMP]).splitlines()
+        (_, shown), = all_blocks("dump")
+        self.assertEqual([line[:len(printed[0])].rstrip() for line in shown], printed)
+
+
+# ---- Names ----
+
+def places_of(name, folder):
+    """Where a name may stand: from the root, from crates/, or beside the last."""
+    return [ROOT / name, ROOT / "crates" / name, *([folder / name] if folder else [])]
+
+
+def missing_names(document):
+    """The names of files and folders in the document that are nowhere."""
+    missing, folder = [], None
+    for line in document.read_text().splitlines():
+        for name in PATH.findall(line):
+            is_file = re.search(r"\.(antt|rt|md|c|h|py|mk|hex|txt|in|svg|expected)$", name)
+            if not (is_file or "/" in name) or name.startswith(MADE):
+                continue
+            found = [place for place in places_of(name, folder) if place.exists()]
+            if not found:
+                missing.append(name)
+            elif "/" in name:
+                folder = found[0] if found[0].is_dir() else found[0].parent
+    return missing
+
+
+class Names(unittest.TestCase):
+    def test_files(self):
+        for document in DOCUMENTS:
+            with self.subTest(document=document.name):
+                self.assertEqual(missing_names(document), [])
+
+
+if __name__ == "__main__":
+    RUNNER, FORMAT_DUMP = sys.argv[1:3]
+    unittest.main(argv=sys.argv[:1])
