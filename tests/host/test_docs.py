@@ -12,6 +12,7 @@ usage: test_docs.py RUNNER FORMAT_DUMP
 - Names of files and folders: each has to be there.
 """
 
+import functools
 import itertools
 import math
 import pathlib
@@ -54,6 +55,7 @@ def all_blocks(kind):
 
 # ---- What a configuration survives ----
 
+@functools.lru_cache(maxsize=None)
 def reaches(n, words, drops):
     """The reach of an item with each choice of so many stations off."""
     script, choices = [], list(itertools.combinations(range(n), drops))
