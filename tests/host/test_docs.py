@@ -10,6 +10,8 @@ usage: test_docs.py RUNNER FORMAT_DUMP
   asked for the reach with every set of stations off the bus.
 - The block that begins with ```dump: FORMAT_DUMP has to print the same bytes.
 - Names of files and folders: each has to be there.
+- Names of definitions in docs/CLAIMS.md and docs/PROOFS.md: each has to stand
+  in some file of the crates.
 """
 
 import functools
@@ -27,8 +29,10 @@ DOCUMENTS = [ROOT / "README.md", *sorted((ROOT / "docs").glob("*.md"))]
 RUNNER, FORMAT_DUMP = "", ""
 
 SURVIVES = re.compile(r"(?:reads|writes) survive (?:no|any (\d+)) drops?(?:, and (\d+) of (\d+) choices of (\d+))?")
-PATH = re.compile(r"`([\w.*-]+(?:/[\w.*-]+)*/?)`")
+PATH = re.compile(r"`([\w.-]+(?:/[\w.-]+)*/?)`")
+DEFINED = re.compile(r"`(?:\w+::)*([A-Za-z][\w-]*)`")
 MADE = ("build/", "target/")
+ANY_CRATE = ("specs/", "proofs/")
 NOTHING, READ = 0, 1
 
 
@@ -119,7 +123,7 @@ def missing_names(document):
     for line in document.read_text().splitlines():
         for name in PATH.findall(line):
             is_file = re.search(r"\.(antt|rt|md|c|h|py|mk|hex|txt|in|svg|expected)$", name)
-            if not (is_file or "/" in name) or name.startswith(MADE):
+            if not (is_file or "/" in name) or name in ANY_CRATE or name.startswith(MADE):
                 continue
             found = [place for place in places_of(name, folder) if place.exists()]
             if not found:
@@ -129,7 +133,23 @@ def missing_names(document):
     return missing
 
 
+def words_of_crates():
+    """Every word in the files of the crates, and the names of the crates."""
+    words = {crate.name for crate in (ROOT / "crates").iterdir()}
+    for path in (ROOT / "crates").rglob("*"):
+        if path.suffix in (".antt", ".rt"):
+            words.update(re.findall(r"[A-Za-z][\w-]*", path.read_text()))
+    return words
+
+
 class Names(unittest.TestCase):
+    def test_definitions(self):
+        words = words_of_crates()
+        for name in ("CLAIMS.md", "PROOFS.md"):
+            with self.subTest(document=name):
+                cited = DEFINED.findall((ROOT / "docs" / name).read_text())
+                self.assertEqual([word for word in cited if word not in words], [])
+
     def test_files(self):
         for document in DOCUMENTS:
             with self.subTest(document=document.name):
