@@ -223,7 +223,8 @@ ospreyscreen_reply ospreyscreen_link(uint8_t *table, size_t len, uint64_t statio
 
 /*
  * Tells what the stations on the bus can do with the item, by the
- * configuration of the highest generation among all its copies.
+ * configuration of the highest generation among all its copies, those of
+ * stations that are off too. Changes no byte.
  * Figures: first is 1 if they hold one of its read sets, 3 if also one of its
  * write sets, else 0.
  * Refusals: 1 table, 2 item.

@@ -125,6 +125,7 @@ test-frames: build
 
 test-tool:
 	python3 tests/host/test_frames_tool.py
+	python3 tests/host/test_stack_tool.py $(CC)
 
 # What each example prints stands beside it.
 EXAMPLE_PROGRAMS := $(C_EXAMPLES) $(CHECKED_EXAMPLES) $(CXX_EXAMPLES)
