@@ -9,10 +9,10 @@ use lib.Dec.{ltb}
 use lib.ListN.{length}
 use borrow.Author.Tests.{ltb-true, ltb-false}
 use Rattle.quorum.proofs.Tests.{by-cases}
-use Rattle.frames.specs.Feed.{printedBy, printedLast}
-use Rattle.frames.specs.Feeding.{Takes}
-use Rattle.frames.specs.declared.feeding.Fed.{Fed}
-use Rattle.frames.proofs.Taking.{printed-length}
+use Rattle.runs.specs.Feed.{printedBy, printedLast}
+use Rattle.feeding.specs.Feeding.{Takes}
+use Rattle.feeding.specs.declared.Fed.{Fed}
+use Rattle.feeding.proofs.Taking.{printed-length}
 
 module _ (piece table line out : List ℕ) (s : Fed) (table' line' out' : List ℕ) (r : Fed) (h : Takes piece table line out s table' line' out' r)
   where

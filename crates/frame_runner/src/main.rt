@@ -2,9 +2,9 @@
 ghost use mathlib.Core.Path.{_≡_};
 ghost use Prim.Native.Nat.{_≤_};
 ghost use lib.ListN.{length};
-use frames::feeding::Fed;
-use frames::feeding::feed;
-use frames::feeding::finish;
+use feeding::Fed;
+use feeding::feed;
+use feeding::finish;
 use libc::STDIN_FILENO;
 use libc::STDOUT_FILENO;
 

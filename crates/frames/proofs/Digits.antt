@@ -91,6 +91,11 @@ bytes-in [] = tt
 bytes-in (c ∷ []) = tt
 bytes-in (a ∷ b ∷ rest) = (byte-lt a b, bytes-in rest)
 
+pub hex-length : (bytes : List ℕ) → length (hexOf bytes) ≡ 2 * length bytes
+unfolding hexOf
+hex-length [] = refl
+hex-length (b ∷ rest) = let e = hex-length rest in omega arith
+
 pub read-back : (bytes : List ℕ) → AreBytes bytes → bytesIn (hexOf bytes) ≡ bytes
 unfolding hexOf bytesIn
 read-back [] h = refl

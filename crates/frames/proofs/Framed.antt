@@ -1,14 +1,13 @@
--- Frames: what is known of a line that is one, its call, and that a long line can be cut.
-use mathlib.Core.Path.{_≡_, refl, ap, subst}
+-- Frames: what is known of a line that is one, and its call.
+use mathlib.Core.Path.{_≡_, refl, subst}
 use mathlib.Core.Bool.{Bool, true, false, cond, _&&_}
 use mathlib.Core.List.{List, [], _∷_}
 use mathlib.Core.Option.{Option, none, some}
 use Prim.Native.Nat.{ℕ, zero, suc, _*_, _≤_, _<_}
 use native.Mathlib.Omega.{arith}
 use lib.Dec.{ltb, leb, eqb}
-use lib.ListN.{length, getD, take}
-use lib.Seq.{take-all, length-take-le}
-use borrow.Author.Tests.{lt-ltb, ltb-true, leb-true, leb-false, eq-eqb, eqb-true}
+use lib.ListN.{length, getD}
+use borrow.Author.Tests.{lt-ltb, ltb-true, leb-true, eq-eqb, eqb-true}
 use Rattle.quorum.specs.Bytes.{AreBytes, number}
 use Rattle.quorum.proofs.Tests.{by-cases, and-left, and-right}
 use Rattle.layout.proofs.Parts.{bytes-part, number-lt}
@@ -16,7 +15,6 @@ use Rattle.rules.specs.Calls.{Call}
 use Rattle.rules.specs.Passed.{Passable, Word}
 use Rattle.frames.specs.Hex.{allDigits, byteOf, bytesIn}
 use Rattle.frames.specs.Frame.{lengths, frameLength, callByte, isFrame, callsOf, callOf}
-use Rattle.frames.specs.Feed.{enough, clip}
 use Rattle.frames.proofs.Table.{entry}
 use Rattle.frames.proofs.Digits.{bytes-in}
 
@@ -99,28 +97,3 @@ passable line c e =
     by-cases (λ (b : Bool). isFrame line ≡ b → cond b (getD (callsOf (bytesIn line)) (callByte line) none) none ≡ some c → Passable c) (isFrame line)
     (λ _ f q. subst MaybePassable q (maybe-at (callsOf (bytesIn line)) (all-maybe (bytesIn line) (bytes-in line)) (callByte line)))
     (λ _ f q. let z : _≡_ {A = ℕ} 0 1 = cc in absurd (omega arith)) refl e
-
--- ---- a long line can be cut
-clip-all : (line : List ℕ) → length line ≤ enough → clip line ≡ line
-unfolding clip
-clip-all line h = take-all enough line h
-
-too-long : (line : List ℕ) → enough ≤ length line → isFrame line ≡ false
-too-long line h = not-frame line (λ f. let e = f .its-length in omega (arith, frame-length-le (callByte line)))
-
-pub call-byte-clip : (line : List ℕ) → callByte (clip line) ≡ callByte line
-unfolding callByte clip bytesIn
-call-byte-clip [] = refl
-call-byte-clip (a ∷ []) = refl
-call-byte-clip (a ∷ b ∷ rest) = refl
-
-cut-both : (line : List ℕ) → enough < length line → callOf (clip line) ≡ callOf line
-unfolding callOf clip
-cut-both line h =
-    let l : enough ≤ length (take enough line) = rw (length-take-le enough line (omega arith)) (omega arith) in
-    rw (too-long (take enough line) l, too-long line (omega arith))
-
-pub call-clip : (line : List ℕ) → callOf (clip line) ≡ callOf line
-call-clip line =
-    by-cases (λ (b : Bool). leb (length line) enough ≡ b → callOf (clip line) ≡ callOf line) (leb (length line) enough)
-    (λ _ e. ap callOf (clip-all line (leb-true (length line) enough e))) (λ _ e. cut-both line (leb-false (length line) enough e)) refl

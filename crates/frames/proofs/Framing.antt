@@ -13,9 +13,9 @@ use Rattle.layout.proofs.Parts.{read-bytes, bytes-of, bytes-append}
 use Rattle.rules.specs.Calls.{Call, lay, openRead, openWrite, openChange, poll, put, commit, abandon, link, reach}
 use Rattle.frames.specs.Hex.{allDigits, bytesIn, hexOf}
 use Rattle.frames.specs.Frame.{frameLength, callByte, callsOf, callOf, frameOf, Framable, IsConfig}
-use Rattle.frames.proofs.Digits.{digit-is-digit, read-back}
+use Rattle.frames.proofs.Digits.{digit-is-digit, hex-length, read-back}
 use Rattle.frames.proofs.Framed.{is-frame}
-use Rattle.frames.proofs.ReplyLine.{hex-length, one-byte}
+use Rattle.frames.proofs.Values.{one-byte}
 
 hex-digits : (bytes : List ℕ) → AreBytes bytes → allDigits (hexOf bytes) ≡ true
 unfolding allDigits hexOf

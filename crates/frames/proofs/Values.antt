@@ -1,12 +1,17 @@
--- A value read from its last byte to its first.
+-- Numbers in bytes: one byte, and a value read from its last byte to its first.
 use mathlib.Core.Path.{_≡_, sym, ap}
-use mathlib.Core.List.{List}
+use mathlib.Core.List.{List, [], _∷_}
 use Prim.Native.Nat.{ℕ, suc, _+_, _-_, _*_, _^_, _≤_, _<_}
 use native.Mathlib.Omega.{arith}
-use native.Mathlib.Nat.{pow-suc, pow-le-pow-right}
+use native.Mathlib.Nat.{add-zero, pow-suc, pow-le-pow-right}
 use lib.ListN.{getD}
-use Rattle.quorum.specs.Bytes.{number}
+use Rattle.quorum.specs.Bytes.{littleEndian, number}
 use Rattle.quorum.proofs.Bytes.{number-suc, number-none}
+
+-- a number of one byte
+pub one-byte : (x : ℕ) → littleEndian (x ∷ []) ≡ x
+unfolding littleEndian
+one-byte x = add-zero x
 
 -- the bytes from place k on have been read
 abbrev pub ReadDown : List ℕ → ℕ → ℕ → ℕ → Type 0

@@ -1,13 +1,3 @@
 pub mod Hex
 pub mod Frame
 pub mod Reading
-pub mod ReplyLine
-pub mod Session
-pub mod Lines
-pub mod Run
-pub mod Feed
-pub mod Performing
-pub mod Splitting
-pub mod Feeding
-pub mod Calls
-pub mod Claims

@@ -1,7 +1,3 @@
-// Frames: hexadecimal lines in, reply lines out (document 01, "Frames").
-pub mod feeding;
+// Frames: calls as lines of hexadecimal (document 01, "Frames").
 pub mod frame;
 pub mod hex;
-pub mod lines;
-pub mod reply_line;
-pub mod session;

@@ -1,0 +1,91 @@
+-- A number written byte by byte, and bytes written as characters.
+use mathlib.Core.Path.{_≡_, refl, sym, ap, _∙_}
+use mathlib.Core.List.{List, [], _∷_, _++_}
+use Prim.Native.Nat.{ℕ, suc, _+_, _-_, _*_, _/_, _%_, _≤_, _<_}
+use native.Mathlib.Omega.{arith}
+use native.Mathlib.Nat.{add-zero}
+use native.Mathlib.Numerals.{add-one}
+use lib.ListN.{length, getD, take, set, length-set, length-append}
+use lib.Seq.{take-suc, take-all, length-take-le}
+use Rattle.layout.specs.Updates.{bytesOf, over}
+use Rattle.layout.proofs.Parts.{over-cons, over-nil, over-append}
+use Rattle.frames.specs.Hex.{digitOf, hexOf}
+use Rattle.frames.proofs.Digits.{hex-length}
+
+-- ---- a number: k of its bytes are written, and the rest of it is to come
+abbrev pub Writes : List ℕ → ℕ → ℕ → List ℕ → ℕ → ℕ → Type 0
+Writes old at x bytes rest k =
+    (k ≤ 8) × (length bytes ≡ length old) × (over old at (bytesOf 8 x) ≡ over bytes (at + k) (bytesOf (8 - k) rest))
+
+pub write-start : (old : List ℕ) (at x : ℕ) → Writes old at x old x 0
+write-start old at x = (omega arith, refl, rw (add-zero at))
+
+pub write-turn : (old : List ℕ) (at x : ℕ) (bytes : List ℕ) (rest k : ℕ) → at + 8 ≤ length old → k < 8 → Writes old at x bytes rest k
+    → Writes old at x (set bytes (at + k) (rest % 256)) (rest / 256) (k + 1)
+unfolding bytesOf
+write-turn old at x bytes rest k h l w =
+    let n : 8 - k ≡ suc (8 - (k + 1)) = omega arith in
+    let e : suc (at + k) ≡ at + (k + 1) = omega arith in
+    let i : at + k < length bytes = omega (arith, w .1) in (
+      omega arith,
+      rw length-set (w .1),
+      w .2 ∙ rw n (over-cons bytes (at + k) (rest % 256) (bytesOf (8 - (k + 1)) (rest / 256)) i ∙ rw e),
+    )
+
+pub write-end : (old : List ℕ) (at x : ℕ) (bytes : List ℕ) (rest k : ℕ) → 8 ≤ k → Writes old at x bytes rest k
+    → bytes ≡ over old at (bytesOf 8 x)
+unfolding bytesOf
+write-end old at x bytes rest k h w = let e : 8 - k ≡ 0 = omega (arith, w .0) in sym (w .2 ∙ rw e (over-nil bytes (at + k)))
+
+-- ---- bytes as characters: those of k bytes are written
+abbrev pub Shown : List ℕ → ℕ → List ℕ → ℕ → List ℕ → Type 0
+Shown old at bytes k out = (length out ≡ length old) × (out ≡ over old at (hexOf (take k bytes)))
+
+hex-append : (xs ys : List ℕ) → hexOf (xs ++ ys) ≡ hexOf xs ++ hexOf ys
+unfolding hexOf
+hex-append [] ys = refl
+hex-append (x ∷ xs) ys = ap (λ l. digitOf (x / 16) ∷ digitOf (x % 16) ∷ l) (hex-append xs ys)
+
+-- one or two bytes written at a place
+pub over-one : (t : List ℕ) (a x : ℕ) → a < length t → over t a (x ∷ []) ≡ set t a x
+over-one t a x h = over-cons t a x [] h ∙ over-nil (set t a x) (suc a)
+
+over-two : (t : List ℕ) (a x y : ℕ) → a + 1 < length t → over t a (x ∷ y ∷ []) ≡ set (set t a x) (a + 1) y
+over-two t a x y h =
+    let e : suc a ≡ a + 1 = omega arith in
+    let l : a + 1 < length (set t a x) = rw length-set h in
+    over-cons t a x (y ∷ []) (omega arith) ∙ rw e (over-one (set t a x) (a + 1) y l)
+
+pub show-start : (old : List ℕ) (at : ℕ) (bytes : List ℕ) → Shown old at bytes 0 old
+unfolding hexOf
+show-start old at bytes = (refl, sym (over-nil old at))
+
+module _ (old : List ℕ) (at : ℕ) (bytes : List ℕ) (room : at + 2 * length bytes ≤ length old) where
+  shown-length : (k : ℕ) → k ≤ length bytes → length (hexOf (take k bytes)) ≡ 2 * k
+  shown-length k l = hex-length (take k bytes) ∙ ap (λ n. 2 * n) (length-take-le k bytes l)
+
+  pub show-turn : (k : ℕ) (out : List ℕ) → k < length bytes → Shown old at bytes k out
+      → Shown old at bytes (k + 1) (set (set out (at + 2 * k) (digitOf (getD bytes k 0 / 16))) (at + 2 * k + 1) (digitOf (getD bytes k 0 % 16)))
+  unfolding hexOf
+  show-turn k out l s =
+      let h = hexOf (take k bytes) in
+      let x = digitOf (getD bytes k 0 / 16) in
+      let y = digitOf (getD bytes k 0 % 16) in
+      let n : length h ≡ 2 * k = shown-length k (omega arith) in
+      let fits : at + length (h ++ (x ∷ y ∷ [])) ≤ length old = omega (arith, length-append h (x ∷ y ∷ []), n) in
+      let here : at + 2 * k + 1 < length out = omega (arith, s .0) in
+      let e : over old at (hexOf (take (k + 1) bytes)) ≡ set (set out (at + 2 * k) x) (at + 2 * k + 1) y =
+      rw (add-one k, take-suc bytes k 0 l, hex-append (take k bytes) (getD bytes k 0 ∷ []), over-append old at h (x ∷ y ∷ []) fits, n, ← s .1)
+      (over-two out (at + 2 * k) x y here)
+      in
+      (rw (length-set, length-set) (s .0), sym e)
+
+  -- the line end behind them
+  pub show-end : (k end : ℕ) (out : List ℕ) → length bytes ≤ k → at + 2 * length bytes < length old → Shown old at bytes k out
+      → set out (at + 2 * length bytes) end ≡ over old at (hexOf bytes ++ (end ∷ []))
+  show-end k end out l h s =
+      let n = hex-length bytes in
+      let fits : at + length (hexOf bytes ++ (end ∷ [])) ≤ length old = omega (arith, length-append (hexOf bytes) (end ∷ []), n) in
+      let all = rw (take-all k bytes l) at (s .1) in
+      let here : at + 2 * length bytes < length out = omega (arith, s .0) in
+      sym (over-append old at (hexOf bytes) (end ∷ []) fits ∙ rw (n, ← all) (over-one out (at + 2 * length bytes) end here))

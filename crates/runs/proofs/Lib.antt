@@ -1,0 +1,7 @@
+pub mod Lent
+pub mod Book
+pub mod Clipped
+pub mod Pieces
+pub mod Printing
+pub mod Claims
+mod Examples

@@ -1,0 +1,1 @@
+// Sessions and runs: definitions and theorems, no code.
