@@ -9,13 +9,22 @@ use Rattle.feeding.proofs.feed.Statement.{statement}
 use Rattle.feeding.proofs.feed.Tie as tie
 
 abbrev Inv-loop : tie.InvT-loop
-Inv-loop piece table₀ line₀ out₀ s₀ table line out s = Takes piece table₀ line₀ out₀ s₀ table line out s × (length table ≡ length table₀) × (length line ≡ length line₀) × (length out ≡ length out₀)
+Inv-loop piece table₀ line₀ out₀ s₀ table line out s =
+    Takes piece table₀ line₀ out₀ s₀ table line out s × (length table ≡ length table₀) × (length line ≡ length line₀) ×
+    (length out ≡ length out₀)
 
 abbrev μ-loop : tie.MeasureT-loop
 μ-loop piece table₀ line₀ out₀ s₀ table line out s = length piece - s .at
 
 loop-holds : tie.Need-loop-holds Inv-loop μ-loop
-loop-holds c = let p = c .before .before .before .before in let a = p .args in (takes-none (a .piece .now) (a .table .now) (a .line .now) (a .out .now) (a .from) (p .pre .1) (p .pre .3) (p .pre .4), refl, refl, refl)
+loop-holds c =
+    let p = c .before .before .before .before in
+    let a = p .args in (
+      takes-none (a .piece .now) (a .table .now) (a .line .now) (a .out .now) (a .from) (p .pre .1) (p .pre .3) (p .pre .4),
+      refl,
+      refl,
+      refl,
+    )
 
 sub-if2 : tie.Need-sub-if2 Inv-loop μ-loop
 sub-if2 c = let l = c .before .before .before .loop in omega (arith, l .inv .0 .out-fits, l .inv .3)
@@ -33,13 +42,36 @@ returns : tie.Need-returns Inv-loop μ-loop
 returns c = let l = c .before .before .before .before .loop in (l .inv .0, inr (omega (arith, c .if2 .taken, l .inv .3)))
 
 step-requires : tie.Need-step-requires Inv-loop μ-loop
-step-requires c κs = let l = c .before .before .before .before .before .before .before .loop in let p = c .before .before .before .before .before .before .before .before .before .before .before .before in (l .inv .1 ∙ p .pre .0, l .inv .0 .table-fits, rw (l .inv .2) (p .pre .2), l .inv .0 .line-fits, omega (arith, c .before .before .before .if2 .left, l .inv .0 .out-fits))
+step-requires c κs =
+    let w = c .before .before .before .before .before .before .before in
+    let l = w .loop in
+    let p = w .before .before .before .before .before in (
+      l .inv .1 ∙ p .pre .0,
+      l .inv .0 .table-fits,
+      rw (l .inv .2) (p .pre .2),
+      l .inv .0 .line-fits,
+      omega (arith, c .before .before .before .if2 .left, l .inv .0 .out-fits),
+    )
 
 loop-less : tie.Need-loop-less Inv-loop μ-loop
-loop-less c = let x = c .before .before .before .before .before .before .step in omega (arith, x .ensures .1 (c .before .before .before .before .before .before .before .before .before .before .before .before .if1 .taken), c .before .before .before .before .before .before .before .before .before .before .before .before .if1 .taken)
+loop-less c =
+    let x = c .before .before .before .before .before .before .step in
+    let more = c .before .before .before .before .before .before .before .before .before .before .before .before .if1 .taken in
+    omega (arith, x .ensures .1 more, more)
 
 loop-again : tie.Need-loop-again Inv-loop μ-loop
-loop-again c = let x = c .before .before .before .before .before .before .step in let l = c .before .before .before .before .before .before .before .before .before .before .before .before .before .before .loop in let a = c .before .before .before .before .before .before .before .before .before .before .before .before .before .before .before .before .before .before .before .args in let k = x .kept .1 in (takes-more (a .piece .now) (a .table .now) (a .line .now) (a .out .now) (a .from) (l .table) (l .line) (l .out) (l .s) (x .last .1 .0) (x .last .1 .1 .0) (x .last .1 .1 .1 .0) (x .result) (l .inv .0) (l .inv .3) (x .ensures .0), k .0 ∙ l .inv .1, k .1 .0 ∙ l .inv .2, k .1 .1 .0 ∙ l .inv .3)
+loop-again c =
+    let x = c .before .before .before .before .before .before .step in
+    let w = c .before .before .before .before .before .before .before .before .before .before .before .before .before .before in
+    let l = w .loop in
+    let a = w .before .before .before .before .before .args in
+    let k = x .kept .1 in (
+      takes-more (a .piece .now) (a .table .now) (a .line .now) (a .out .now) (a .from) (l .table) (l .line) (l .out) (l .s) (x .last .1 .0)
+          (x .last .1 .1 .0) (x .last .1 .1 .1 .0) (x .result) (l .inv .0) (l .inv .3) (x .ensures .0),
+      k .0 ∙ l .inv .1,
+      k .1 .0 ∙ l .inv .2,
+      k .1 .1 .0 ∙ l .inv .3,
+    )
 
 same-length-4 : tie.Need-same-length-4 Inv-loop μ-loop
 same-length-4 c = c .before .before .loop .inv .1

@@ -27,7 +27,13 @@ same-length-2 : tie.Need-same-length-2
 same-length-2 c = search needs
 
 returns-2 : tie.Need-returns-2
-returns-2 c = let p = c .before .before .before .before .before .before .before .before .before .before .before .before .before in let a = p .args in let l = take (a .s .len) (a .line .now) in let t = take (a .s .used) (a .table .now) in let some : 0 < length l = rw length-take (omega arith) in rw (printed-last t l some) (omega (arith, printed-length t l), c .before .before .before .before .before .answer .ensures .1)
+returns-2 c =
+    let p = c .before .before .before .before .before .before .before .before .before .before .before .before .before in
+    let a = p .args in
+    let l = take (a .s .len) (a .line .now) in
+    let t = take (a .s .used) (a .table .now) in
+    let some : 0 < length l = rw length-take (omega arith) in
+    rw (printed-last t l some) (omega (arith, printed-length t l), c .before .before .before .before .before .answer .ensures .1)
 
 pub finish-spec : {M : Type 1} → statement M
 finish-spec =

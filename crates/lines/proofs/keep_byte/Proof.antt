@@ -20,10 +20,18 @@ same-length : tie.Need-same-length
 same-length c = search needs
 
 returns : tie.Need-returns
-returns c = let a = c .before .args in let l : a .len < length (a .line .now) = omega arith in (rw (kept-one (a .len) (a .byte) (c .if1 .taken)), rw (kept-one (a .len) (a .byte) (c .if1 .taken)) (sym (over-one (a .line .now) (a .len) (a .byte) l)))
+returns c =
+    let a = c .before .args in
+    let l : a .len < length (a .line .now) = omega arith in (
+      rw (kept-one (a .len) (a .byte) (c .if1 .taken)),
+      rw (kept-one (a .len) (a .byte) (c .if1 .taken)) (sym (over-one (a .line .now) (a .len) (a .byte) l)),
+    )
 
 returns-2 : tie.Need-returns-2
-returns-2 c = let a = c .before .args in let k = kept-none (a .len) (a .byte ∷ []) (c .if1 .left) in (rw k (omega arith), rw k (sym (over-nil (a .line .now) (a .len))))
+returns-2 c =
+    let a = c .before .args in
+    let k = kept-none (a .len) (a .byte ∷ []) (c .if1 .left) in
+    (rw k (omega arith), rw k (sym (over-nil (a .line .now) (a .len))))
 
 pub keep-byte-spec : {M : Type 1} → statement M
 keep-byte-spec = tie.close (tie.spec slice-write-line add-result same-length returns returns-2)

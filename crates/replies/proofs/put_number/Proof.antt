@@ -29,13 +29,19 @@ loop-less : tie.Need-loop-less Inv-loop μ-loop
 loop-less c = search needs
 
 loop-again : tie.Need-loop-again Inv-loop μ-loop
-loop-again c = let l = c .before .loop in let a = c .before .before .args in write-turn (a .bytes .now) (a .at) (a .x) (l .bytes) (l .rest) (l .k) (c .before .before .pre) (c .loop-test .taken) (l .inv)
+loop-again c =
+    let l = c .before .loop in
+    let a = c .before .before .args in
+    write-turn (a .bytes .now) (a .at) (a .x) (l .bytes) (l .rest) (l .k) (c .before .before .pre) (c .loop-test .taken) (l .inv)
 
 same-length : tie.Need-same-length Inv-loop μ-loop
 same-length c = c .before .loop .inv .1
 
 returns : tie.Need-returns Inv-loop μ-loop
-returns c = let l = c .before .loop in let a = c .before .before .args in write-end (a .bytes .now) (a .at) (a .x) (l .bytes) (l .rest) (l .k) (c .loop-test .left) (l .inv)
+returns c =
+    let l = c .before .loop in
+    let a = c .before .before .args in
+    write-end (a .bytes .now) (a .at) (a .x) (l .bytes) (l .rest) (l .k) (c .loop-test .left) (l .inv)
 
 pub put-number-spec : {M : Type 1} → statement M
 put-number-spec =

@@ -32,7 +32,10 @@ put-number-requires-3 : tie.Need-put-number-requires-3
 put-number-requires-3 c κs = search needs
 
 returns : tie.Need-returns
-returns c = c .before .put-number3 .ensures ∙ rw (c .before .before .before .before .put-number2 .ensures, c .before .before .before .before .before .before .before .put-number .ensures) (reply-bytes-written _ _)
+returns c =
+    c .before .put-number3 .ensures ∙ rw
+    (c .before .before .before .before .put-number2 .ensures, c .before .before .before .before .before .before .before .put-number .ensures)
+    (reply-bytes-written _ _)
 
 pub reply-bytes-spec : {M : Type 1} → statement M
 reply-bytes-spec =

@@ -19,7 +19,11 @@ reply-bytes-requires : tie.Need-reply-bytes-requires Inv-loop μ-loop
 reply-bytes-requires c κs = search needs
 
 loop-holds : tie.Need-loop-holds Inv-loop μ-loop
-loop-holds c = (search needs, rw (c .reply-bytes .ensures) (reply-bytes-length _ _), show-start _ (c .before .before .args .at) (c .reply-bytes .result))
+loop-holds c = (
+  search needs,
+  rw (c .reply-bytes .ensures) (reply-bytes-length _ _),
+  show-start _ (c .before .before .args .at) (c .reply-bytes .result),
+)
 
 array-read-byte : tie.Need-array-read-byte Inv-loop μ-loop
 array-read-byte c = search needs
@@ -58,7 +62,17 @@ loop-less : tie.Need-loop-less Inv-loop μ-loop
 loop-less c = search needs
 
 loop-again : tie.Need-loop-again Inv-loop μ-loop
-loop-again c = let l = c .before .before .before .loop in let a = c .before .before .before .before .before .before .args in let bytes = c .before .before .before .before .reply-bytes .result in let room : a .at + 2 * length bytes ≤ length (a .out .now) = omega arith in let some : l .k < length bytes = omega arith in (search needs, l .inv .1, rw (c .before .high-digit .ensures, c .low-digit .ensures) (show-turn (a .out .now) (a .at) bytes room (l .k) (l .out) some (l .inv .2)))
+loop-again c =
+    let l = c .before .before .before .loop in
+    let a = c .before .before .before .before .before .before .args in
+    let bytes = c .before .before .before .before .reply-bytes .result in
+    let room : a .at + 2 * length bytes ≤ length (a .out .now) = omega arith in
+    let some : l .k < length bytes = omega arith in (
+      search needs,
+      l .inv .1,
+      rw (c .before .high-digit .ensures, c .low-digit .ensures)
+          (show-turn (a .out .now) (a .at) bytes room (l .k) (l .out) some (l .inv .2)),
+    )
 
 add-out-4 : tie.Need-add-out-4 Inv-loop μ-loop
 add-out-4 c = search needs
@@ -71,7 +85,15 @@ same-length c = rw length-set (c .before .loop .inv .2 .0)
 
 returns : tie.Need-returns Inv-loop μ-loop
 unfolding replyLine
-returns c = let l = c .before .loop in let a = c .before .before .before .before .args in let bytes = c .before .before .reply-bytes .result in let room : a .at + 2 * length bytes ≤ length (a .out .now) = omega arith in let more : a .at + 2 * length bytes < length (a .out .now) = omega arith in let all : length bytes ≤ l .k = omega arith in rw (l .inv .1) at (show-end (a .out .now) (a .at) bytes room (l .k) 10 (l .out) all more (l .inv .2)) ∙ rw (c .before .before .reply-bytes .ensures)
+returns c =
+    let l = c .before .loop in
+    let a = c .before .before .before .before .args in
+    let bytes = c .before .before .reply-bytes .result in
+    let room : a .at + 2 * length bytes ≤ length (a .out .now) = omega arith in
+    let more : a .at + 2 * length bytes < length (a .out .now) = omega arith in
+    let all : length bytes ≤ l .k = omega arith in
+    rw (l .inv .1) at (show-end (a .out .now) (a .at) bytes room (l .k) 10 (l .out) all more (l .inv .2)) ∙ rw
+    (c .before .before .reply-bytes .ensures)
 
 pub write-reply-spec : {M : Type 1} → statement M
 write-reply-spec =

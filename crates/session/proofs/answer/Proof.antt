@@ -29,7 +29,16 @@ same-length-2 c = search needs
 
 returns : tie.Need-returns
 unfolding tableAfter replyTo printed
-returns c = let f = c .before .before .before .before .before .before .before .before .before .before .before .before .read-frame in let p = c .before .before .before .before .before .before .before .before .perform in let line = c .before .before .before .before .before .before .before .before .before .before .before .before .before .before .before .before .args .line .now in let e : callAt (f .result .code) (f .result .bytes) ≡ callOf line = rw (f .ensures) (frame-call line) in (rw (← e) (p .ensures .1), c .before .before .write-reply .ensures ∙ rw (c .before .before .before .before .call-byte .ensures, p .ensures .0, e))
+returns c =
+    let q = c .before .before .before .before .before .before .before .before in
+    let p = q .perform in
+    let w = q .before .before .before .before in
+    let f = w .read-frame in
+    let line = w .before .before .before .before .args .line .now in
+    let e : callAt (f .result .code) (f .result .bytes) ≡ callOf line = rw (f .ensures) (frame-call line) in (
+      rw (← e) (p .ensures .1),
+      c .before .before .write-reply .ensures ∙ rw (c .before .before .before .before .call-byte .ensures, p .ensures .0, e),
+    )
 
 pub answer-spec : {M : Type 1} → statement M
 answer-spec =

@@ -35,7 +35,15 @@ same-length-2 c = search needs
 
 returns-2 : tie.Need-returns-2
 unfolding callsOf
-returns-2 c = let s = c .before .before .before .before .before .before .before .before in let a = s .args in let x = c .before .before .ospreyscreen-open-read in performed (a .table .now) (s .pre .1) (a .used) (callAt (a .code) (a .bytes .now)) (openRead (c .before .before .before .byte-at .result)) (x .result) (x .last .0) (rw (c .before .before .before .before .before .match .keys2, c .before .before .before .byte-at .ensures)) refl (s .pre .2) (x .ensures .0) (x .ensures .1) (x .kept .0)
+returns-2 c =
+    let s = c .before .before .before .before .before .before .before .before in
+    let a = s .args in
+    let k = c .before .before .before .before .before .match .keys2 in
+    let x = c .before .before .ospreyscreen-open-read in
+    let y = c .before .before .before .byte-at in
+    performed (a .table .now) (s .pre .1) (a .used) (callAt (a .code) (a .bytes .now))
+    (openRead (y .result)) (x .result) (x .last .0) (rw (k, y .ensures))
+    refl (s .pre .2) (x .ensures .0) (x .ensures .1) (x .kept .0)
 
 slice-relend-prefix-ospreyscreen-open-write : tie.Need-slice-relend-prefix-ospreyscreen-open-write
 slice-relend-prefix-ospreyscreen-open-write c = search needs
@@ -57,7 +65,16 @@ same-length-3 c = search needs
 
 returns-3 : tie.Need-returns-3
 unfolding callsOf
-returns-3 c = let s = c .before .before .before .before .before .before .before .before .before in let a = s .args in let x = c .before .before .ospreyscreen-open-write in performed (a .table .now) (s .pre .1) (a .used) (callAt (a .code) (a .bytes .now)) (openWrite (c .before .before .before .before .byte-at2 .result) (c .before .before .before .value-at .result)) (x .result) (x .last .0) (rw (c .before .before .before .before .before .before .match .keys3, c .before .before .before .before .byte-at2 .ensures, c .before .before .before .value-at .ensures)) refl (s .pre .2) (x .ensures .0) (x .ensures .1) (x .kept .0)
+returns-3 c =
+    let s = c .before .before .before .before .before .before .before .before .before in
+    let a = s .args in
+    let k = c .before .before .before .before .before .before .match .keys3 in
+    let x = c .before .before .ospreyscreen-open-write in
+    let y = c .before .before .before .before .byte-at2 in
+    let z = c .before .before .before .value-at in
+    performed (a .table .now) (s .pre .1) (a .used) (callAt (a .code) (a .bytes .now))
+    (openWrite (y .result) (z .result)) (x .result) (x .last .0) (rw (k, y .ensures, z .ensures))
+    refl (s .pre .2) (x .ensures .0) (x .ensures .1) (x .kept .0)
 
 slice-relend-prefix-ospreyscreen-open-change :
     tie.Need-slice-relend-prefix-ospreyscreen-open-change
@@ -86,7 +103,15 @@ same-length-4 c = search needs
 
 returns-4 : tie.Need-returns-4
 unfolding callsOf
-returns-4 c = let s = c .before .before .before .before .before .before .before .before .before in let a = s .args in let x = c .before .before .ospreyscreen-open-change in performed (a .table .now) (s .pre .1) (a .used) (callAt (a .code) (a .bytes .now)) (openChange (c .before .before .before .before .byte-at3 .result) (part (a .bytes .now) 2 32)) (x .result) (x .last .0) (rw (c .before .before .before .before .before .before .match .keys4, c .before .before .before .before .byte-at3 .ensures)) refl (s .pre .2) (x .ensures .0) (x .ensures .1) (x .kept .0)
+returns-4 c =
+    let s = c .before .before .before .before .before .before .before .before .before in
+    let a = s .args in
+    let k = c .before .before .before .before .before .before .match .keys4 in
+    let x = c .before .before .ospreyscreen-open-change in
+    let y = c .before .before .before .before .byte-at3 in
+    performed (a .table .now) (s .pre .1) (a .used) (callAt (a .code) (a .bytes .now))
+    (openChange (y .result) (part (a .bytes .now) 2 32)) (x .result) (x .last .0) (rw (k, y .ensures))
+    refl (s .pre .2) (x .ensures .0) (x .ensures .1) (x .kept .0)
 
 slice-relend-prefix-ospreyscreen-poll : tie.Need-slice-relend-prefix-ospreyscreen-poll
 slice-relend-prefix-ospreyscreen-poll c = search needs
@@ -105,7 +130,15 @@ same-length-5 c = search needs
 
 returns-5 : tie.Need-returns-5
 unfolding callsOf
-returns-5 c = let s = c .before .before .before .before .before .before .before .before in let a = s .args in let x = c .before .before .ospreyscreen-poll in performed (a .table .now) (s .pre .1) (a .used) (callAt (a .code) (a .bytes .now)) (poll (c .before .before .before .byte-at4 .result)) (x .result) (x .last .0) (rw (c .before .before .before .before .before .match .keys5, c .before .before .before .byte-at4 .ensures)) refl (s .pre .2) (x .ensures .0) (x .ensures .1) (x .kept .0)
+returns-5 c =
+    let s = c .before .before .before .before .before .before .before .before in
+    let a = s .args in
+    let k = c .before .before .before .before .before .match .keys5 in
+    let x = c .before .before .ospreyscreen-poll in
+    let y = c .before .before .before .byte-at4 in
+    performed (a .table .now) (s .pre .1) (a .used) (callAt (a .code) (a .bytes .now))
+    (poll (y .result)) (x .result) (x .last .0) (rw (k, y .ensures))
+    refl (s .pre .2) (x .ensures .0) (x .ensures .1) (x .kept .0)
 
 slice-relend-prefix-ospreyscreen-put : tie.Need-slice-relend-prefix-ospreyscreen-put
 slice-relend-prefix-ospreyscreen-put c = search needs
@@ -127,7 +160,16 @@ same-length-6 c = search needs
 
 returns-6 : tie.Need-returns-6
 unfolding callsOf
-returns-6 c = let s = c .before .before .before .before .before .before .before .before .before in let a = s .args in let x = c .before .before .ospreyscreen-put in performed (a .table .now) (s .pre .1) (a .used) (callAt (a .code) (a .bytes .now)) (put (c .before .before .before .before .byte-at5 .result) (c .before .before .before .byte-at6 .result)) (x .result) (x .last .0) (rw (c .before .before .before .before .before .before .match .keys6, c .before .before .before .before .byte-at5 .ensures, c .before .before .before .byte-at6 .ensures)) refl (s .pre .2) (x .ensures .0) (x .ensures .1) (x .kept .0)
+returns-6 c =
+    let s = c .before .before .before .before .before .before .before .before .before in
+    let a = s .args in
+    let k = c .before .before .before .before .before .before .match .keys6 in
+    let x = c .before .before .ospreyscreen-put in
+    let y = c .before .before .before .before .byte-at5 in
+    let z = c .before .before .before .byte-at6 in
+    performed (a .table .now) (s .pre .1) (a .used) (callAt (a .code) (a .bytes .now))
+    (put (y .result) (z .result)) (x .result) (x .last .0) (rw (k, y .ensures, z .ensures))
+    refl (s .pre .2) (x .ensures .0) (x .ensures .1) (x .kept .0)
 
 slice-relend-prefix-ospreyscreen-commit : tie.Need-slice-relend-prefix-ospreyscreen-commit
 slice-relend-prefix-ospreyscreen-commit c = search needs
@@ -143,7 +185,14 @@ same-length-7 c = search needs
 
 returns-7 : tie.Need-returns-7
 unfolding callsOf
-returns-7 c = let s = c .before .before .before .before .before .before .before in let a = s .args in let x = c .before .before .ospreyscreen-commit in performed (a .table .now) (s .pre .1) (a .used) (callAt (a .code) (a .bytes .now)) (commit) (x .result) (x .last .0) (rw (c .before .before .before .before .match .keys7)) refl (s .pre .2) (x .ensures .0) (x .ensures .1) (x .kept .0)
+returns-7 c =
+    let s = c .before .before .before .before .before .before .before in
+    let a = s .args in
+    let k = c .before .before .before .before .match .keys7 in
+    let x = c .before .before .ospreyscreen-commit in
+    performed (a .table .now) (s .pre .1) (a .used) (callAt (a .code) (a .bytes .now))
+    commit (x .result) (x .last .0) (rw (k))
+    refl (s .pre .2) (x .ensures .0) (x .ensures .1) (x .kept .0)
 
 slice-relend-prefix-ospreyscreen-abandon : tie.Need-slice-relend-prefix-ospreyscreen-abandon
 slice-relend-prefix-ospreyscreen-abandon c = search needs
@@ -159,7 +208,14 @@ same-length-8 c = search needs
 
 returns-8 : tie.Need-returns-8
 unfolding callsOf
-returns-8 c = let s = c .before .before .before .before .before .before .before in let a = s .args in let x = c .before .before .ospreyscreen-abandon in performed (a .table .now) (s .pre .1) (a .used) (callAt (a .code) (a .bytes .now)) (abandon) (x .result) (x .last .0) (rw (c .before .before .before .before .match .keys8)) refl (s .pre .2) (x .ensures .0) (x .ensures .1) (x .kept .0)
+returns-8 c =
+    let s = c .before .before .before .before .before .before .before in
+    let a = s .args in
+    let k = c .before .before .before .before .match .keys8 in
+    let x = c .before .before .ospreyscreen-abandon in
+    performed (a .table .now) (s .pre .1) (a .used) (callAt (a .code) (a .bytes .now))
+    abandon (x .result) (x .last .0) (rw (k))
+    refl (s .pre .2) (x .ensures .0) (x .ensures .1) (x .kept .0)
 
 slice-relend-prefix-ospreyscreen-link : tie.Need-slice-relend-prefix-ospreyscreen-link
 slice-relend-prefix-ospreyscreen-link c = search needs
@@ -181,7 +237,16 @@ same-length-9 c = search needs
 
 returns-9 : tie.Need-returns-9
 unfolding callsOf
-returns-9 c = let s = c .before .before .before .before .before .before .before .before .before in let a = s .args in let x = c .before .before .ospreyscreen-link in performed (a .table .now) (s .pre .1) (a .used) (callAt (a .code) (a .bytes .now)) (link (c .before .before .before .before .byte-at7 .result) (c .before .before .before .byte-at8 .result)) (x .result) (x .last .0) (rw (c .before .before .before .before .before .before .match .keys9, c .before .before .before .before .byte-at7 .ensures, c .before .before .before .byte-at8 .ensures)) refl (s .pre .2) (x .ensures .0) (x .ensures .1) (x .kept .0)
+returns-9 c =
+    let s = c .before .before .before .before .before .before .before .before .before in
+    let a = s .args in
+    let k = c .before .before .before .before .before .before .match .keys9 in
+    let x = c .before .before .ospreyscreen-link in
+    let y = c .before .before .before .before .byte-at7 in
+    let z = c .before .before .before .byte-at8 in
+    performed (a .table .now) (s .pre .1) (a .used) (callAt (a .code) (a .bytes .now))
+    (link (y .result) (z .result)) (x .result) (x .last .0) (rw (k, y .ensures, z .ensures))
+    refl (s .pre .2) (x .ensures .0) (x .ensures .1) (x .kept .0)
 
 slice-relend-prefix-ospreyscreen-reach : tie.Need-slice-relend-prefix-ospreyscreen-reach
 slice-relend-prefix-ospreyscreen-reach c = search needs
@@ -200,7 +265,15 @@ same-length-10 c = search needs
 
 returns-10 : tie.Need-returns-10
 unfolding callsOf
-returns-10 c = let s = c .before .before .before .before .before .before .before .before in let a = s .args in let x = c .before .before .ospreyscreen-reach in performed (a .table .now) (s .pre .1) (a .used) (callAt (a .code) (a .bytes .now)) (reach (c .before .before .before .byte-at9 .result)) (x .result) (x .last .0) (rw (c .before .before .before .before .before .match .keys10, c .before .before .before .byte-at9 .ensures)) refl (s .pre .2) (x .ensures .0) (x .ensures .1) (x .kept .0)
+returns-10 c =
+    let s = c .before .before .before .before .before .before .before .before in
+    let a = s .args in
+    let k = c .before .before .before .before .before .match .keys10 in
+    let x = c .before .before .ospreyscreen-reach in
+    let y = c .before .before .before .byte-at9 in
+    performed (a .table .now) (s .pre .1) (a .used) (callAt (a .code) (a .bytes .now))
+    (reach (y .result)) (x .result) (x .last .0) (rw (k, y .ensures))
+    refl (s .pre .2) (x .ensures .0) (x .ensures .1) (x .kept .0)
 
 returns-11 : tie.Need-returns-11
 returns-11 c =

@@ -21,10 +21,14 @@ lay-length-requires : tie.Need-lay-length-requires
 lay-length-requires c κs = search needs
 
 slice-relend-prefix-ospreyscreen-lay : tie.Need-slice-relend-prefix-ospreyscreen-lay
-slice-relend-prefix-ospreyscreen-lay c = omega (arith, c .lay-length .ensures, lay-length-le (c .before .before .before .byte-at .result) (c .before .before .byte-at2 .result))
+slice-relend-prefix-ospreyscreen-lay c =
+    omega (arith, c .lay-length .ensures, lay-length-le (c .before .before .before .byte-at .result) (c .before .before .byte-at2 .result))
 
 slice-aggregate-ospreyscreen-lay : tie.Need-slice-aggregate-ospreyscreen-lay
-slice-aggregate-ospreyscreen-lay c = let g = c .before in simp length-take (omega (arith, g .lay-length .ensures, lay-length-le (g .before .before .before .byte-at .result) (g .before .before .byte-at2 .result)))
+slice-aggregate-ospreyscreen-lay c =
+    let g = c .before in
+    simp length-take
+    (omega (arith, g .lay-length .ensures, lay-length-le (g .before .before .before .byte-at .result) (g .before .before .byte-at2 .result)))
 
 sub-ospreyscreen-lay : tie.Need-sub-ospreyscreen-lay
 sub-ospreyscreen-lay c = search needs
@@ -43,14 +47,34 @@ same-length c = search needs
 
 returns : tie.Need-returns
 unfolding callsOf
-returns c = let l = c .before .before .before .before .ospreyscreen-lay in let g = c .before .before .before .before .before .before .before in let s = g .before .before .before .before .before .before in let a = s .args in let v = g .before .value-at in let m = g .before .before .byte-at2 in let n = g .before .before .before .byte-at in laid (a .table .now) (s .pre .1) (a .used) (n .result) (m .result) (v .result) (part (a .bytes .now) 11 32) (callAt 1 (a .bytes .now)) (l .result) (l .last .0) (g .lay-length .result) (g .lay-length .ensures) (rw (n .ensures, m .ensures, v .ensures)) (l .ensures .0) (l .ensures .1) (c .if1 .taken) (l .kept .0)
+returns c =
+    let l = c .before .before .before .before .ospreyscreen-lay in
+    let g = c .before .before .before .before .before .before .before in
+    let s = g .before .before .before .before .before .before in
+    let a = s .args in
+    let v = g .before .value-at in
+    let m = g .before .before .byte-at2 in
+    let n = g .before .before .before .byte-at in
+    laid (a .table .now) (s .pre .1) (a .used) (n .result) (m .result) (v .result) (part (a .bytes .now) 11 32) (callAt 1 (a .bytes .now))
+    (l .result) (l .last .0) (g .lay-length .result) (g .lay-length .ensures) (rw (n .ensures, m .ensures, v .ensures)) (l .ensures .0)
+    (l .ensures .1) (c .if1 .taken) (l .kept .0)
 
 same-length-2 : tie.Need-same-length-2
 same-length-2 c = search needs
 
 returns-2 : tie.Need-returns-2
 unfolding callsOf
-returns-2 c = let l = c .before .before .before .before .ospreyscreen-lay in let g = c .before .before .before .before .before .before .before in let s = g .before .before .before .before .before .before in let a = s .args in let v = g .before .value-at in let m = g .before .before .byte-at2 in let n = g .before .before .before .byte-at in not-laid (a .table .now) (s .pre .1) (a .used) (n .result) (m .result) (v .result) (part (a .bytes .now) 11 32) (callAt 1 (a .bytes .now)) (l .result) (l .last .0) (g .lay-length .result) (g .lay-length .ensures) (rw (n .ensures, m .ensures, v .ensures)) (l .ensures .0) (l .ensures .1) (c .if1 .left) (s .pre .2)
+returns-2 c =
+    let l = c .before .before .before .before .ospreyscreen-lay in
+    let g = c .before .before .before .before .before .before .before in
+    let s = g .before .before .before .before .before .before in
+    let a = s .args in
+    let v = g .before .value-at in
+    let m = g .before .before .byte-at2 in
+    let n = g .before .before .before .byte-at in
+    not-laid (a .table .now) (s .pre .1) (a .used) (n .result) (m .result) (v .result) (part (a .bytes .now) 11 32)
+    (callAt 1 (a .bytes .now)) (l .result) (l .last .0) (g .lay-length .result) (g .lay-length .ensures)
+    (rw (n .ensures, m .ensures, v .ensures)) (l .ensures .0) (l .ensures .1) (c .if1 .left) (s .pre .2)
 
 pub perform-lay-spec : {M : Type 1} → statement M
 perform-lay-spec =

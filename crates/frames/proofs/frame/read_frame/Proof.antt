@@ -39,7 +39,10 @@ no-frame-requires : tie.Need-no-frame-requires Inv-loop μ-loop
 no-frame-requires c κs = search needs
 
 returns : tie.Need-returns Inv-loop μ-loop
-returns c = let p = c .before .before in no-frame-in (line-of p) _ (not-frame (line-of p) (λ f. let h = f .has-call in omega (arith, n-is p))) (c .no-frame .ensures .0) (c .no-frame .ensures .1)
+returns c =
+    let p = c .before .before in
+    no-frame-in (line-of p) _ (not-frame (line-of p) (λ f. let h = f .has-call in omega (arith, n-is p))) (c .no-frame .ensures .0)
+    (c .no-frame .ensures .1)
 
 mul-if2 : tie.Need-mul-if2 Inv-loop μ-loop
 mul-if2 c = omega (arith, n-le (c .before))
@@ -48,13 +51,20 @@ no-frame-requires-2 : tie.Need-no-frame-requires-2 Inv-loop μ-loop
 no-frame-requires-2 c κs = search needs
 
 returns-2 : tie.Need-returns-2 Inv-loop μ-loop
-returns-2 c = let p = c .before .before .before in no-frame-in (line-of p) _ (not-frame (line-of p) (λ f. c .before .if2 .taken (f .its-length ∙ ap (λ n. 2 * n) (sym (n-is p))))) (c .no-frame2 .ensures .0) (c .no-frame2 .ensures .1)
+returns-2 c =
+    let p = c .before .before .before in
+    no-frame-in (line-of p) _ (not-frame (line-of p) (λ f. c .before .if2 .taken (f .its-length ∙ ap (λ n. 2 * n) (sym (n-is p)))))
+    (c .no-frame2 .ensures .0) (c .no-frame2 .ensures .1)
 
 array-write-bytes : tie.Need-array-write-bytes Inv-loop μ-loop
 array-write-bytes c = search needs
 
 loop-holds : tie.Need-loop-holds Inv-loop μ-loop
-loop-holds c = let p = c .before .before in let h : 0 < frameLength (callByte (line-of p)) = omega (arith, n-is p) in let l : 2 ≤ length (line-of p) = omega arith in (omega arith, n-le p, c .if2 .left, rw (p .before .call-byte .ensures) (read-start (line-of p) h l))
+loop-holds c =
+    let p = c .before .before in
+    let h : 0 < frameLength (callByte (line-of p)) = omega (arith, n-is p) in
+    let l : 2 ≤ length (line-of p) = omega arith in
+    (omega arith, n-le p, c .if2 .left, rw (p .before .call-byte .ensures) (read-start (line-of p) h l))
 
 mul-high : tie.Need-mul-high Inv-loop μ-loop
 mul-high c = search needs
@@ -90,7 +100,11 @@ loop-less : tie.Need-loop-less Inv-loop μ-loop
 loop-less c = search needs
 
 loop-again : tie.Need-loop-again Inv-loop μ-loop
-loop-again c = let p = c .before .before .before .before .before .before .before .before .before in let i = c .before .before .before .before .before .before in let s = read-turn (line-of p) (i .loop .k) (omega arith) (i .loop .ok) (i .loop .bytes) (omega arith) (i .loop .inv .3) in (omega arith, n-le p, i .loop .inv .2, rw (c .before .before .is-digit .ensures, c .before .is-digit2 .ensures, c .byte-of .ensures) s)
+loop-again c =
+    let p = c .before .before .before .before .before .before .before .before .before in
+    let i = c .before .before .before .before .before .before in
+    let s = read-turn (line-of p) (i .loop .k) (omega arith) (i .loop .ok) (i .loop .bytes) (omega arith) (i .loop .inv .3) in
+    (omega arith, n-le p, i .loop .inv .2, rw (c .before .before .is-digit .ensures, c .before .is-digit2 .ensures, c .byte-of .ensures) s)
 
 -- after the loop the whole line is read
 abbrev whole : tie.After-loop Inv-loop μ-loop → tie.After-frame-length Inv-loop μ-loop
@@ -106,10 +120,22 @@ no-frame-requires-3 : tie.Need-no-frame-requires-3 Inv-loop μ-loop
 no-frame-requires-3 c κs = search needs
 
 returns-3 : tie.Need-returns-3 Inv-loop μ-loop
-returns-3 c = let q = c .before in let p = whole q in let n = p .frame-length .result in let h : 0 < frameLength (callByte (line-of p)) = omega (arith, n-is p, n-le p, q .before .before .before .if1 .left) in frame-in (line-of p) _ (is-frame (line-of p) (record { has-call = h; its-length = q .before .loop .inv .2 ∙ ap (λ n. 2 * n) (n-is p); digits = sym (all-read q .0) ∙ c .if3 .taken })) (p .before .call-byte .ensures) (all-read q .1)
+returns-3 c =
+    let q = c .before in
+    let p = whole q in
+    let n = p .frame-length .result in
+    let h : 0 < frameLength (callByte (line-of p)) = omega (arith, n-is p, n-le p, q .before .before .before .if1 .left) in
+    let e = q .before .loop .inv .2 ∙ ap (λ n. 2 * n) (n-is p) in
+    let d = sym (all-read q .0) ∙ c .if3 .taken in
+    frame-in (line-of p) _ (is-frame (line-of p) (record { has-call = h; its-length = e; digits = d }))
+    (p .before .call-byte .ensures) (all-read q .1)
 
 returns-4 : tie.Need-returns-4 Inv-loop μ-loop
-returns-4 c = let q = c .before .before in let p = whole q in no-frame-in (line-of p) _ (not-frame (line-of p) (λ f. clash (all-read q .0 ∙ f .digits) (c .before .if3 .left))) (c .no-frame3 .ensures .0) (c .no-frame3 .ensures .1)
+returns-4 c =
+    let q = c .before .before in
+    let p = whole q in
+    no-frame-in (line-of p) _ (not-frame (line-of p) (λ f. clash (all-read q .0 ∙ f .digits) (c .before .if3 .left)))
+    (c .no-frame3 .ensures .0) (c .no-frame3 .ensures .1)
 
 pub read-frame-spec : {M : Type 1} → statement M
 read-frame-spec =

@@ -27,16 +27,28 @@ cast-value : tie.Need-cast-value Inv-loop μ-loop
 cast-value c = omega (arith, c .shared-slice-known .given (c .before .before .before .args .at + (c .before .before .loop .k - 1)))
 
 mul-value : tie.Need-mul-value Inv-loop μ-loop
-mul-value c = omega (arith, down-fits (c .before .before .before .args .bytes .now) (c .before .before .before .args .at) (c .before .before .loop .k) (c .before .before .loop .value) (c .before .loop-test .taken) (c .shared-slice-known .given (c .before .before .before .args .at + (c .before .before .loop .k - 1)) .fits) (c .before .before .loop .inv))
+mul-value c =
+    let l = c .before .before .loop in
+    let a = c .before .before .before .args in
+    let byte = c .shared-slice-known .given (a .at + (l .k - 1)) .fits in
+    omega (arith, down-fits (a .bytes .now) (a .at) (l .k) (l .value) (c .before .loop-test .taken) byte (l .inv))
 
 add-value-2 : tie.Need-add-value-2 Inv-loop μ-loop
-add-value-2 c = record { fits = down-fits (c .before .before .before .args .bytes .now) (c .before .before .before .args .at) (c .before .before .loop .k) (c .before .before .loop .value) (c .before .loop-test .taken) (c .shared-slice-known .given (c .before .before .before .args .at + (c .before .before .loop .k - 1)) .fits) (c .before .before .loop .inv) }
+add-value-2 c =
+    let l = c .before .before .loop in
+    let a = c .before .before .before .args in
+    let byte = c .shared-slice-known .given (a .at + (l .k - 1)) .fits in
+    record { fits = down-fits (a .bytes .now) (a .at) (l .k) (l .value) (c .before .loop-test .taken) byte (l .inv) }
 
 loop-less : tie.Need-loop-less Inv-loop μ-loop
 loop-less c = search needs
 
 loop-again : tie.Need-loop-again Inv-loop μ-loop
-loop-again c = down-turn (c .before .before .before .args .bytes .now) (c .before .before .before .args .at) (c .before .before .loop .k) (c .before .before .loop .value) (c .before .loop-test .taken) (c .shared-slice-known .given (c .before .before .before .args .at + (c .before .before .loop .k - 1)) .fits) (c .before .before .loop .inv)
+loop-again c =
+    let l = c .before .before .loop in
+    let a = c .before .before .before .args in
+    let byte = c .shared-slice-known .given (a .at + (l .k - 1)) .fits in
+    down-turn (a .bytes .now) (a .at) (l .k) (l .value) (c .before .loop-test .taken) byte (l .inv)
 
 returns : tie.Need-returns Inv-loop μ-loop
 returns c = down-end _ _ _ _ (c .loop-test .left) (c .before .loop .inv)

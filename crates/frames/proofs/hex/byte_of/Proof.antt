@@ -41,10 +41,18 @@ digit-value-requires-2 : tie.Need-digit-value-requires-2
 digit-value-requires-2 c κs = search needs
 
 add-result : tie.Need-add-result
-add-result c = let b = c .before .before in omega (arith, value-lt (high-of b) (high-digit b), c .before .digit-value .ensures ∙ value-or (high-of b) (high-digit b), value-lt (low-of b) (low-digit b), c .digit-value2 .ensures ∙ value-or (low-of b) (low-digit b))
+add-result c =
+    let b = c .before .before in
+    let high = c .before .digit-value .ensures ∙ value-or (high-of b) (high-digit b) in
+    let low = c .digit-value2 .ensures ∙ value-or (low-of b) (low-digit b) in
+    omega (arith, value-lt (high-of b) (high-digit b), high, value-lt (low-of b) (low-digit b), low)
 
 returns : tie.Need-returns
-returns c = let b = c .before .before in rw (byte-digits (high-of b) (low-of b) (high-digit b) (low-digit b), c .before .digit-value .ensures, c .digit-value2 .ensures, value-or (high-of b) (high-digit b), value-or (low-of b) (low-digit b))
+returns c =
+    let b = c .before .before in
+    let high = c .before .digit-value .ensures ∙ value-or (high-of b) (high-digit b) in
+    let low = c .digit-value2 .ensures ∙ value-or (low-of b) (low-digit b) in
+    rw (byte-digits (high-of b) (low-of b) (high-digit b) (low-digit b), high, low)
 
 returns-2 : tie.Need-returns-2
 unfolding byteOf
