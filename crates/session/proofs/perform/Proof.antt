@@ -1,8 +1,6 @@
 use mathlib.Core.Path.{refl}
 use native.Mathlib.Omega.{arith}
 use lib.ListN.{length-take}
-use Rattle.quorum.specs.Bytes.{part}
-use Rattle.rules.specs.Calls.{openRead, openWrite, openChange, poll, put, commit, abandon, link, reach}
 use Rattle.frames.specs.Frame.{callsOf, callAt}
 use Rattle.session.proofs.Performing.{performed, other-code}
 use borrow.Author.Needs.{needs}
@@ -41,9 +39,8 @@ returns-2 c =
     let k = c .before .before .before .before .before .match .keys2 in
     let x = c .before .before .ospreyscreen-open-read in
     let y = c .before .before .before .byte-at in
-    performed (a .table .now) (s .pre .1) (a .used) (callAt (a .code) (a .bytes .now))
-    (openRead (y .result)) (x .result) (x .last .0) (rw (k, y .ensures))
-    refl (s .pre .2) (x .ensures .0) (x .ensures .1) (x .kept .0)
+    performed (a .table .now) (s .pre .1) (a .used) (callAt (a .code) (a .bytes .now)) _ (x .result) (x .last .0)
+    (rw (k, y .ensures)) refl (s .pre .2) (x .ensures .0) (x .ensures .1) (x .kept .0)
 
 slice-relend-prefix-ospreyscreen-open-write : tie.Need-slice-relend-prefix-ospreyscreen-open-write
 slice-relend-prefix-ospreyscreen-open-write c = search needs
@@ -72,9 +69,8 @@ returns-3 c =
     let x = c .before .before .ospreyscreen-open-write in
     let y = c .before .before .before .before .byte-at2 in
     let z = c .before .before .before .value-at in
-    performed (a .table .now) (s .pre .1) (a .used) (callAt (a .code) (a .bytes .now))
-    (openWrite (y .result) (z .result)) (x .result) (x .last .0) (rw (k, y .ensures, z .ensures))
-    refl (s .pre .2) (x .ensures .0) (x .ensures .1) (x .kept .0)
+    performed (a .table .now) (s .pre .1) (a .used) (callAt (a .code) (a .bytes .now)) _ (x .result) (x .last .0)
+    (rw (k, y .ensures, z .ensures)) refl (s .pre .2) (x .ensures .0) (x .ensures .1) (x .kept .0)
 
 slice-relend-prefix-ospreyscreen-open-change :
     tie.Need-slice-relend-prefix-ospreyscreen-open-change
@@ -109,9 +105,8 @@ returns-4 c =
     let k = c .before .before .before .before .before .before .match .keys4 in
     let x = c .before .before .ospreyscreen-open-change in
     let y = c .before .before .before .before .byte-at3 in
-    performed (a .table .now) (s .pre .1) (a .used) (callAt (a .code) (a .bytes .now))
-    (openChange (y .result) (part (a .bytes .now) 2 32)) (x .result) (x .last .0) (rw (k, y .ensures))
-    refl (s .pre .2) (x .ensures .0) (x .ensures .1) (x .kept .0)
+    performed (a .table .now) (s .pre .1) (a .used) (callAt (a .code) (a .bytes .now)) _ (x .result) (x .last .0)
+    (rw (k, y .ensures)) refl (s .pre .2) (x .ensures .0) (x .ensures .1) (x .kept .0)
 
 slice-relend-prefix-ospreyscreen-poll : tie.Need-slice-relend-prefix-ospreyscreen-poll
 slice-relend-prefix-ospreyscreen-poll c = search needs
@@ -136,9 +131,8 @@ returns-5 c =
     let k = c .before .before .before .before .before .match .keys5 in
     let x = c .before .before .ospreyscreen-poll in
     let y = c .before .before .before .byte-at4 in
-    performed (a .table .now) (s .pre .1) (a .used) (callAt (a .code) (a .bytes .now))
-    (poll (y .result)) (x .result) (x .last .0) (rw (k, y .ensures))
-    refl (s .pre .2) (x .ensures .0) (x .ensures .1) (x .kept .0)
+    performed (a .table .now) (s .pre .1) (a .used) (callAt (a .code) (a .bytes .now)) _ (x .result) (x .last .0)
+    (rw (k, y .ensures)) refl (s .pre .2) (x .ensures .0) (x .ensures .1) (x .kept .0)
 
 slice-relend-prefix-ospreyscreen-put : tie.Need-slice-relend-prefix-ospreyscreen-put
 slice-relend-prefix-ospreyscreen-put c = search needs
@@ -167,9 +161,8 @@ returns-6 c =
     let x = c .before .before .ospreyscreen-put in
     let y = c .before .before .before .before .byte-at5 in
     let z = c .before .before .before .byte-at6 in
-    performed (a .table .now) (s .pre .1) (a .used) (callAt (a .code) (a .bytes .now))
-    (put (y .result) (z .result)) (x .result) (x .last .0) (rw (k, y .ensures, z .ensures))
-    refl (s .pre .2) (x .ensures .0) (x .ensures .1) (x .kept .0)
+    performed (a .table .now) (s .pre .1) (a .used) (callAt (a .code) (a .bytes .now)) _ (x .result) (x .last .0)
+    (rw (k, y .ensures, z .ensures)) refl (s .pre .2) (x .ensures .0) (x .ensures .1) (x .kept .0)
 
 slice-relend-prefix-ospreyscreen-commit : tie.Need-slice-relend-prefix-ospreyscreen-commit
 slice-relend-prefix-ospreyscreen-commit c = search needs
@@ -190,9 +183,8 @@ returns-7 c =
     let a = s .args in
     let k = c .before .before .before .before .match .keys7 in
     let x = c .before .before .ospreyscreen-commit in
-    performed (a .table .now) (s .pre .1) (a .used) (callAt (a .code) (a .bytes .now))
-    commit (x .result) (x .last .0) (rw (k))
-    refl (s .pre .2) (x .ensures .0) (x .ensures .1) (x .kept .0)
+    performed (a .table .now) (s .pre .1) (a .used) (callAt (a .code) (a .bytes .now)) _ (x .result) (x .last .0)
+    (rw k) refl (s .pre .2) (x .ensures .0) (x .ensures .1) (x .kept .0)
 
 slice-relend-prefix-ospreyscreen-abandon : tie.Need-slice-relend-prefix-ospreyscreen-abandon
 slice-relend-prefix-ospreyscreen-abandon c = search needs
@@ -213,9 +205,8 @@ returns-8 c =
     let a = s .args in
     let k = c .before .before .before .before .match .keys8 in
     let x = c .before .before .ospreyscreen-abandon in
-    performed (a .table .now) (s .pre .1) (a .used) (callAt (a .code) (a .bytes .now))
-    abandon (x .result) (x .last .0) (rw (k))
-    refl (s .pre .2) (x .ensures .0) (x .ensures .1) (x .kept .0)
+    performed (a .table .now) (s .pre .1) (a .used) (callAt (a .code) (a .bytes .now)) _ (x .result) (x .last .0)
+    (rw k) refl (s .pre .2) (x .ensures .0) (x .ensures .1) (x .kept .0)
 
 slice-relend-prefix-ospreyscreen-link : tie.Need-slice-relend-prefix-ospreyscreen-link
 slice-relend-prefix-ospreyscreen-link c = search needs
@@ -244,9 +235,8 @@ returns-9 c =
     let x = c .before .before .ospreyscreen-link in
     let y = c .before .before .before .before .byte-at7 in
     let z = c .before .before .before .byte-at8 in
-    performed (a .table .now) (s .pre .1) (a .used) (callAt (a .code) (a .bytes .now))
-    (link (y .result) (z .result)) (x .result) (x .last .0) (rw (k, y .ensures, z .ensures))
-    refl (s .pre .2) (x .ensures .0) (x .ensures .1) (x .kept .0)
+    performed (a .table .now) (s .pre .1) (a .used) (callAt (a .code) (a .bytes .now)) _ (x .result) (x .last .0)
+    (rw (k, y .ensures, z .ensures)) refl (s .pre .2) (x .ensures .0) (x .ensures .1) (x .kept .0)
 
 slice-relend-prefix-ospreyscreen-reach : tie.Need-slice-relend-prefix-ospreyscreen-reach
 slice-relend-prefix-ospreyscreen-reach c = search needs
@@ -271,9 +261,8 @@ returns-10 c =
     let k = c .before .before .before .before .before .match .keys10 in
     let x = c .before .before .ospreyscreen-reach in
     let y = c .before .before .before .byte-at9 in
-    performed (a .table .now) (s .pre .1) (a .used) (callAt (a .code) (a .bytes .now))
-    (reach (y .result)) (x .result) (x .last .0) (rw (k, y .ensures))
-    refl (s .pre .2) (x .ensures .0) (x .ensures .1) (x .kept .0)
+    performed (a .table .now) (s .pre .1) (a .used) (callAt (a .code) (a .bytes .now)) _ (x .result) (x .last .0)
+    (rw (k, y .ensures)) refl (s .pre .2) (x .ensures .0) (x .ensures .1) (x .kept .0)
 
 returns-11 : tie.Need-returns-11
 returns-11 c =
