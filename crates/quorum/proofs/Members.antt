@@ -11,8 +11,8 @@ use lib.Arith.{bin-ind, digits-div, digits-mod}
 use lib.Pow.{shr-shr, pow-pos, pow-lt, pow-mono}
 use lib.Bits.{bitAnd, bitOr, and-step, or-step, and-le-l, or-lt}
 use borrow.Author.Tests.{ltb-true, lt-ltb, le-ltb, eqb-true, eqb-false, eq-eqb, ne-eqb, not-true}
-use Rattle.quorum.specs.Sets.{member, used, holds, shares, within, join, minus, remove, full}
-use Rattle.quorum.proofs.Tests.{same-test, and-left, and-right, and-both, by-cases, clash}
+use Rattle.quorum.specs.Sets.{member, used, holds, shares, within, join, unite, minus, remove, full}
+use Rattle.quorum.proofs.Tests.{same-test, and-left, and-right, and-both, or-left, or-right, or-cases, by-cases, clash}
 
 -- ---- station 0, and the stations above it
 pub member-zero : (a : ℕ) → member a 0 ≡ eqb (a % 2) 1
@@ -210,6 +210,15 @@ pub within-join : (n a k : ℕ) → n ≤ 16 → within n a ≡ true → k < n �
 unfolding within join
 within-join n a k l e h =
     let q : k < 16 = omega arith in rw (lt-ltb _ _ q) (lt-ltb _ _ (or-lt n a (2 ^ k) (ltb-true _ _ e) (pow-lt h)))
+
+pub within-unite : (n a b : ℕ) → within n (unite a b) ≡ (within n a && within n b)
+unfolding unite
+within-unite n a b =
+    same-test _ _
+    (λ e. and-both _ _ (within-members n a .1 (λ i m. within-members n (bitOr a b) .0 e i (member-or i a b ∙ or-left _ _ m)))
+    (within-members n b .1 (λ i m. within-members n (bitOr a b) .0 e i (member-or i a b ∙ or-right (member a i) _ m))))
+    (λ e. within-members n (bitOr a b) .1 (λ i m. or-cases (member a i) (member b i) (sym (member-or i a b) ∙ m)
+    (within-members n a .0 (and-left _ _ e) i) (within-members n b .0 (and-right (within n a) _ e) i)))
 
 pub within-minus : (n a b : ℕ) → within n a ≡ true → within n (minus a b) ≡ true
 unfolding within minus

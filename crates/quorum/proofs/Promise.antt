@@ -9,12 +9,12 @@ use lib.ListN.{length}
 use lib.Pow.{pow-pos, pow-mono}
 use borrow.Author.Tests.{ltb-true, lt-ltb, ne-eqb}
 use Rattle.quorum.specs.Tests.{anyBelow}
-use Rattle.quorum.specs.Sets.{member, used, within, remove, full}
+use Rattle.quorum.specs.Sets.{member, used, within, unite, remove, full}
 use Rattle.quorum.specs.Configurations.{setAt, readSet, writeSet, valid, holdsPlace, holdsRead, holdsWrite, firstPlace, firstRead, firstWrite}
 use Rattle.quorum.specs.Promise.{Promise, Some, _⊆_, LiesIn, FirstIn, Side}
 use Rattle.quorum.specs.declared.Place.the-variants.{At}
 use Rattle.quorum.proofs.Tests.{clash, same-test, any-below, below-any}
-use Rattle.quorum.proofs.Members.{member-empty, member-join, member-minus, member-remove, member-full, same-members, holds-member, member-holds, shares-members, used-member, within-members, within-join, within-minus}
+use Rattle.quorum.proofs.Members.{member-empty, member-join, member-or, member-minus, member-remove, member-full, same-members, holds-member, member-holds, shares-members, used-member, within-members, within-join, within-unite, within-minus}
 use Rattle.quorum.proofs.Validity.{valid-facts, facts-valid, first-used, place-lies, lies-place, first-found, first-nowhere}
 
 -- a test that cannot pass fails
@@ -80,7 +80,7 @@ module _ (side : ℕ → ℕ) (set : ℕ) where
   )
 
 pub promise : Promise
-unfolding readSet writeSet holdsRead holdsWrite firstRead firstWrite within remove
+unfolding readSet writeSet holdsRead holdsWrite firstRead firstWrite within unite remove
 promise =
     record {
       quorums-meet = meeting;
@@ -103,6 +103,7 @@ promise =
       short-write = λ c set h. short (writeSet c) set (λ k. no-set c (8 + k) h);
       member-empty = member-empty;
       member-join = member-join;
+      member-unite = λ a b i. member-or i a b;
       member-minus = λ a b i. member-minus i a b;
       member-remove = λ a i k. member-remove i k a;
       member-full = member-full;
@@ -114,6 +115,7 @@ promise =
       member-within = λ n a. within-members n a .1;
       within-empty = λ n. lt-ltb 0 (2 ^ n) (pow-pos n);
       within-join = within-join;
+      within-unite = within-unite;
       within-minus = within-minus;
       within-remove = λ n a k. within-minus n a (2 ^ k);
       within-16 = λ n a l w. let h = ltb-true a (2 ^ n) w in let p : 2 ^ n ≤ 2 ^ 16 = pow-mono l in omega arith;

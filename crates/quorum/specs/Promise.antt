@@ -7,7 +7,7 @@ use mathlib.Core.Logic.{_↔_}
 use Prim.Native.Nat.{ℕ, suc, _≤_, _<_}
 use lib.Dec.{ltb, eqb}
 use lib.ListN.{length}
-use Rattle.quorum.specs.Sets.{member, used, holds, shares, within, join, minus, remove, full}
+use Rattle.quorum.specs.Sets.{member, used, holds, shares, within, join, unite, minus, remove, full}
 use Rattle.quorum.specs.Configurations.{readSet, writeSet, valid, holdsRead, holdsWrite, firstRead, firstWrite}
 use Rattle.quorum.specs.declared.Place.the-variants.{At, Nowhere}
 
@@ -76,6 +76,7 @@ pub record Promise : Type 0 where
   -- ---- members
   pub member-empty : (i : ℕ) → member 0 i ≡ false
   pub member-join : (a i k : ℕ) → k < 16 → member (join a k) i ≡ (member a i || eqb i k)
+  pub member-unite : (a b i : ℕ) → member (unite a b) i ≡ (member a i || member b i)
   pub member-minus : (a b i : ℕ) → member (minus a b) i ≡ (member a i && not (member b i))
   pub member-remove : (a i k : ℕ) → member (remove a k) i ≡ (member a i && not (eqb i k))
   pub member-full : (n i : ℕ) → n ≤ 16 → member (full n) i ≡ ltb i n
@@ -89,6 +90,7 @@ pub record Promise : Type 0 where
   pub member-within : (n a : ℕ) → ((i : ℕ) → member a i ≡ true → i < n) → within n a ≡ true
   pub within-empty : (n : ℕ) → within n 0 ≡ true
   pub within-join : (n a k : ℕ) → n ≤ 16 → within n a ≡ true → k < n → within n (join a k) ≡ true
+  pub within-unite : (n a b : ℕ) → within n (unite a b) ≡ (within n a && within n b)
   pub within-minus : (n a b : ℕ) → within n a ≡ true → within n (minus a b) ≡ true
   pub within-remove : (n a k : ℕ) → within n a ≡ true → within n (remove a k) ≡ true
   pub within-16 : (n a : ℕ) → n ≤ 16 → within n a ≡ true → a < 65536

@@ -29,6 +29,10 @@ within n set = ltb set (2 ^ n)
 unfoldable pub join : ℕ → ℕ → ℕ
 join set i = cond (ltb i 16) (bitOr set (2 ^ i)) set
 
+-- the stations of either set
+unfoldable pub unite : ℕ → ℕ → ℕ
+unite a b = bitOr a b
+
 -- the stations of a that are not in b
 unfoldable pub minus : ℕ → ℕ → ℕ
 minus a b = a - bitAnd a b

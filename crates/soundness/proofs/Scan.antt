@@ -1,27 +1,35 @@
 -- What the code's tests of soundness come to: bytes that are zero, configurations with the same bytes, the scan over the
 -- copies, and the list of tests in parts.
 use mathlib.Core.Path.{_≡_, refl, sym, ap, _∙_}
-use mathlib.Core.Bool.{Bool, true, false, _&&_, and-true, and-assoc}
+use mathlib.Core.Bool.{Bool, true, false, not, _&&_, and-true, and-assoc}
 use mathlib.Core.List.{List, [], _∷_}
 use Prim.Native.Nat.{ℕ, zero, suc, _+_, _-_, _*_, _≤_, _<_, suc-le-suc}
 use native.Mathlib.Omega.{arith}
-use native.Mathlib.Nat.{add-zero, add-suc, mul-comm, suc-mul, zero-mul, mul-le-mul, le-of-suc-le-suc, le-antisymm, le-refl}
+use native.Mathlib.Nat.{add-assoc, add-zero, add-suc, mul-comm, suc-mul, zero-mul, mul-le-mul, le-of-suc-le-suc, le-antisymm, le-refl}
 use native.Mathlib.Numerals.{add-one}
 use lib.ListN.{length, getD, take, drop}
 use lib.Seq.{ext-getD, getD-take, getD-drop}
-use lib.Dec.{eqb}
+use lib.Dec.{ltb, leb, eqb}
 use borrow.Author.Tests.{eq-eqb, eqb-true, leb-true}
 use Rattle.quorum.specs.Tests.{all, allBelow}
 use Rattle.quorum.specs.Bytes.{number}
-use Rattle.quorum.specs.Configurations.{validAt, validTo}
+use Rattle.quorum.specs.Sets.{shares, within, unite}
+use Rattle.quorum.specs.Configurations.{valid, validAt, validTo}
 use Rattle.quorum.proofs.Tests.{clash, by-cases, same-test, and-left, and-right, and-both, all-true, all-below, below-all, all-same}
 use Rattle.quorum.proofs.Bytes.{number-none, number-suc}
-use Rattle.quorum.proofs.Same.{same-part}
-use Rattle.layout.specs.Layout.{spareAt, copyConfigAt, copySize, configSize, address, tableLength}
-use Rattle.layout.specs.Fields.{kindOf, change, stations, items, roundOf, copyFrom}
+use Rattle.validity.proofs.Same.{same-part}
+use Rattle.quorum.proofs.Promise.{promise}
+use Rattle.layout.specs.Layout.{kindAt, spareAt, copyConfigAt, copySize, configSize, address, tableLength}
+use Rattle.layout.specs.Fields.{Kind, none, read, write, change, kindOf, stations, items, offSet, roundOf, copyFrom}
 use Rattle.layout.specs.Soundness.{isZero, roundSound, copiesValid, soundness, sound}
-use Rattle.soundness.specs.Scan.{sizeSound, headSound, configAt, copiesTo, sameByte, sameLane, sameBlock}
+use Rattle.soundness.specs.Scan.{sizeSound, headSound, roundBlank, targetSound, configAt, copiesTo, sameByte, sameLane, sameBlock}
 use Rattle.layout.proofs.Numbers.{number-one}
+
+-- ---- the numbers below a sum
+all-add : (p : ℕ → Bool) (a b : ℕ) → allBelow p (a + b) ≡ (allBelow p a && allBelow (λ j. p (a + j)) b)
+unfolding allBelow
+all-add p a zero = rw (add-zero a) (sym (and-true _))
+all-add p a (suc b) = rw (add-suc a b, all-add p a b, and-assoc)
 
 -- ---- bytes that are zero
 zero-sum : (a b : ℕ) → eqb (a + 256 * b) 0 ≡ (eqb a 0 && eqb b 0)
@@ -46,6 +54,20 @@ unfolding allBelow
 bytes-zero t at zero = rw (number-none t at)
 bytes-zero t at (suc k) = rw (bytes-zero t at k, last-zero t at k)
 
+-- word by word
+pub no-words-zero : (t : List ℕ) (at : ℕ) → isZero t at (8 * 0) ≡ true
+no-words-zero t at = rw (number-none t at)
+
+pub words-zero : (t : List ℕ) (at k : ℕ) → isZero t at (8 * (k + 1)) ≡ (isZero t at (8 * k) && eqb (number t (at + 8 * k) 8) 0)
+words-zero t at k =
+    let e : 8 * (k + 1) ≡ 8 * k + 8 = omega arith in
+    ap (isZero t at) e ∙ sym (bytes-zero t at (8 * k + 8)) ∙ all-add (λ j. eqb (getD t (at + j) 0) 0) (8 * k) 8
+    ∙ and-same (bytes-zero t at (8 * k))
+    (all-same _ _ 8 (λ j _. ap (λ i. eqb (getD t i 0) 0) (sym (add-assoc at (8 * k) j))) ∙ bytes-zero t (at + 8 * k) 8)
+  where
+    and-same : {a b c d : Bool} → a ≡ b → c ≡ d → (a && c) ≡ (b && d)
+    and-same p q = cc
+
 -- ---- configurations with the same bytes
 block-valid : (t : List ℕ) (n at : ℕ) → at + copySize * 8 + configSize ≤ length t → sameBlock t at ≡ true → validAt n t at ≡ true
     → (j : ℕ) → j < 8 → validAt n t (at + copySize + copySize * j) ≡ true
@@ -66,12 +88,7 @@ block-valid t n at h e v j l =
 pub fails : {b : Bool} → (b ≡ true → ⊥) → false ≡ b
 fails {b} h = by-cases (λ c. false ≡ c) b (λ e. absurd (h e)) (λ _. refl)
 
--- the numbers below a sum, and below a product
-all-add : (p : ℕ → Bool) (a b : ℕ) → allBelow p (a + b) ≡ (allBelow p a && allBelow (λ j. p (a + j)) b)
-unfolding allBelow
-all-add p a zero = rw (add-zero a) (sym (and-true _))
-all-add p a (suc b) = rw (add-suc a b, all-add p a b, and-assoc)
-
+-- the numbers below a product
 all-pairs : (p : ℕ → Bool) (n m : ℕ) → allBelow (λ i. allBelow (λ s. p (i * n + s)) n) m ≡ allBelow p (m * n)
 unfolding allBelow
 all-pairs p n zero = rw (zero-mul n)
@@ -126,21 +143,53 @@ scan-copies t h =
     place i s = omega arith
 
 -- ---- soundness in the parts that the code tests
-abbrev pub roundFits : List ℕ → Bool
-roundFits t = roundSound t (roundOf t .kind)
+abbrev pub kind : List ℕ → Kind
+kind t = roundOf t .kind
 
-regrouped : (h r z c : Bool) → (h && (r && (z && (c && true)))) ≡ ((h && z) && (r && c))
-regrouped false r z c = refl
-regrouped true false false c = refl
-regrouped true false true c = refl
-regrouped true true false c = refl
-regrouped true true true c = and-true c
+round-parts : (t : List ℕ) (k : Kind) → roundSound t k ≡ (roundBlank t k && targetSound t k)
+unfolding roundSound roundBlank targetSound
+round-parts t none = sym (and-true _)
+round-parts t read = sym (and-true _)
+round-parts t write = sym (and-true _)
+round-parts t change = refl
 
-pub sound-parts : (t : List ℕ) → sound t ≡ (sizeSound t && (headSound t && (roundFits t && copiesValid t)))
-unfolding sound soundness sizeSound headSound all
-sound-parts t =
-    let l = soundness t in
-    all-split 5 l ∙ ap (λ b. sizeSound t && b) (all-split 8 (drop 5 l) ∙ regrouped (all (take 8 (drop 5 l))) (roundFits t) (isZero t spareAt 4) (copiesValid t))
+-- the tests in the order of the list, and in that of the code
+regrouped : (a b o p d c x y r t z k : Bool) → (a && (b && (o && (p && (d && (c && (x && (y && ((r && t) && (z && (k && true)))))))))))
+    ≡ ((((((a && b) && (((o && p) && d) && c)) && x) && y) && z) && (r && (k && t)))
+regrouped false b o p d c x y r t z k = refl
+regrouped true false o p d c x y r t z k = refl
+regrouped true true false p d c x y r t z k = refl
+regrouped true true true false d c x y r t z k = refl
+regrouped true true true true false c x y r t z k = refl
+regrouped true true true true true false x y r t z k = refl
+regrouped true true true true true true false y r t z k = refl
+regrouped true true true true true true true false r t z k = refl
+regrouped true true true true true true true true false t false k = refl
+regrouped true true true true true true true true true false false k = refl
+regrouped true true true true true true true true true true false k = refl
+regrouped true true true true true true true true false t true k = refl
+regrouped true true true true true true true true true false true false = refl
+regrouped true true true true true true true true true false true true = refl
+regrouped true true true true true true true true true true true false = refl
+regrouped true true true true true true true true true true true true = refl
+
+head-parts : (t : List ℕ) → all (drop 5 (soundness t)) ≡ (headSound t && (roundBlank t (kind t) && (copiesValid t && targetSound t (kind t))))
+unfolding soundness all headSound
+head-parts t =
+    let n = stations t in
+    let o = offSet t in
+    let p = roundOf t .polled in
+    let d = roundOf t .dataPuts in
+    let w = promise .within-unite n in
+    let c = roundOf t .configPuts in
+    rw (w (unite (unite o p) d) c, w (unite o p) d, w o p, round-parts t (kind t))
+    (regrouped (leb (number t kindAt 1) 3) (ltb (roundOf t .item) (items t)) (within n o) (within n p) (within n d) (within n c) (not (shares d o))
+    (not (shares c o)) (roundBlank t (kind t)) (targetSound t (kind t)) (isZero t spareAt 4) (copiesValid t))
+
+pub sound-parts : (t : List ℕ)
+    → sound t ≡ (sizeSound t && (headSound t && (roundBlank t (kind t) && (copiesValid t && targetSound t (kind t)))))
+unfolding sound sizeSound
+sound-parts t = all-split 5 (soundness t) ∙ ap (λ b. sizeSound t && b) (head-parts t)
 
 pub record Size (t : List ℕ) : Type 0 where
   pub long : length t ≡ tableLength (stations t) (items t)
@@ -165,9 +214,28 @@ size-facts t e =
 pub bytes-product : (t : List ℕ) → getD t 0 0 < 256 → getD t 1 0 < 256 → stations t * items t ≤ 65025
 bytes-product t h g = rw (number-one t 0, number-one t 1) (mul-le-mul (le-of-suc-le-suc h) (le-of-suc-le-suc g))
 
+-- ---- kinds of rounds, by their numbers
 -- a kind of round above 2 counts as a change
 pub other-kind : (k : ℕ) → 3 ≤ k → kindOf k ≡ change
 other-kind zero h = absurd (omega arith)
 other-kind (suc zero) h = absurd (omega arith)
 other-kind (suc (suc zero)) h = absurd (omega arith)
 other-kind (suc (suc (suc k))) h = refl
+
+-- one of the kinds that is no change has no target to be tested
+pub no-target : (t : List ℕ) (k : ℕ) → k ≤ 3 → (k ≡ 3 → ⊥) → targetSound t (kindOf k) ≡ true
+unfolding targetSound
+no-target t zero h ne = refl
+no-target t (suc zero) h ne = refl
+no-target t (suc (suc zero)) h ne = refl
+no-target t (suc (suc (suc zero))) h ne = absurd (ne refl)
+no-target t (suc (suc (suc (suc k)))) h ne = absurd (omega arith)
+
+pub a-target : (t : List ℕ) → targetSound t (kindOf 3) ≡ valid (stations t) (roundOf t .target)
+unfolding targetSound
+a-target t = refl
+
+-- a head that is sound has a kind in range
+pub kind-in-range : (t : List ℕ) → headSound t ≡ true → number t kindAt 1 ≤ 3
+unfolding headSound
+kind-in-range t e = leb-true _ _ (and-left _ _ (and-left _ _ (and-left _ _ (and-left _ _ (and-left _ _ e)))))

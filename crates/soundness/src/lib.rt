@@ -6,8 +6,8 @@ ghost use Prim.Native.Nat.{_+_, _*_, _<_, _≤_};
 ghost use lib.ListN.{length};
 ghost use Rattle.layout.specs.Layout.{headSize, copySize, configSize};
 ghost use Rattle.layout.specs.Fields.{roundOf};
-ghost use Rattle.layout.specs.Soundness.{isZero, roundSound, sound};
-ghost use Rattle.soundness.specs.Scan.{sizeSound, headSound, configAt, copiesTo, sameLane, sameBlock};
+ghost use Rattle.layout.specs.Soundness.{isZero, sound};
+ghost use Rattle.soundness.specs.Scan.{sizeSound, headSound, roundBlank, configAt, copiesTo, sameLane, sameBlock};
 use layout::copy::COPY_CONFIG_AT;
 use layout::copy::COPY_SIZE;
 use layout::head;
@@ -17,10 +17,15 @@ use layout::head::SPARE_AT;
 use layout::head::TARGET_AT;
 use layout::head::VALUE_AT;
 use layout::number::CONFIG_SIZE;
-use quorum::all_valid;
-use quorum::is_valid;
+use layout::number::u64_at;
 use quorum::is_within;
 use quorum::share_station;
+use quorum::united;
+use validity::all_valid;
+use validity::is_valid;
+
+// The round's kind of a change.
+const CHANGE: usize = 3;
 
 // Where the configuration of the first copy starts.
 const FIRST_CONFIG_AT: usize = HEAD_SIZE + COPY_CONFIG_AT;
@@ -39,7 +44,13 @@ pub fn is_sound(t: &[u8]) -> bool
         return false;
     }
     let n = head::stations(t);
-    copies_ok(t, n, n * head::items(t) - 1)
+    if !copies_ok(t, n, n * head::items(t) - 1) {
+        return false;
+    }
+    if head::kind(t) != CHANGE {
+        return true;
+    }
+    is_valid(head::target(t), n)
 }
 
 // Whether n and m are in range and the length fits.
@@ -65,25 +76,25 @@ fn head_ok(t: &[u8]) -> bool
     let config_puts = head::config_puts(t);
     (head::kind(t) <= 3)
         & (head::item(t) < head::items(t))
-        & is_within(off, n)
-        & is_within(head::polled(t), n)
-        & is_within(data_puts, n)
-        & is_within(config_puts, n)
+        & is_within(
+            united(united(united(off, head::polled(t)), data_puts), config_puts),
+            n,
+        )
         & !share_station(data_puts, off)
         & !share_station(config_puts, off)
         & is_blank(t, SPARE_AT, 4)
 }
 
-// Whether the round has only what its kind asks for.
+// Whether the round has only what its kind asks for; a change's target is tested last of all.
 fn round_ok(t: &[u8]) -> bool
     requires { ⌜ headSize ≤ length (now t) ⌝ }
-    ensures { λ r. ⌜ r ≡ roundSound (now (t .entry)) (roundOf (now (t .entry)) .kind) ⌝ }
+    ensures { λ r. ⌜ r ≡ roundBlank (now (t .entry)) (roundOf (now (t .entry)) .kind) ⌝ }
 {
     match head::kind(t) {
-        0 => is_blank(t, ITEM_AT, 7) & is_blank(t, VALUE_AT, 40),
-        1 => (head::data_puts(t) == 0) & (head::config_puts(t) == 0) & is_blank(t, VALUE_AT, 40),
-        2 => (head::config_puts(t) == 0) & is_blank(t, TARGET_AT, CONFIG_SIZE),
-        _ => (head::value(t) == 0) & is_valid(head::target(t), head::stations(t)),
+        0 => is_blank(t, ITEM_AT, 7) & blank_words(t, VALUE_AT, 5),
+        1 => (head::data_puts(t) == 0) & (head::config_puts(t) == 0) & blank_words(t, VALUE_AT, 5),
+        2 => (head::config_puts(t) == 0) & blank_words(t, TARGET_AT, 4),
+        _ => head::value(t) == 0,
     }
 }
 
@@ -95,6 +106,18 @@ fn is_blank(t: &[u8], at: usize, width: usize) -> bool
     let mut ok = true;
     for k in 0..width {
         ok = ok & (t[at + k] == 0);
+    }
+    ok
+}
+
+// The same for words of eight bytes.
+fn blank_words(t: &[u8], at: usize, count: usize) -> bool
+    requires { ⌜ at + 8 * count ≤ length (now t) ⌝ }
+    ensures { λ r. ⌜ r ≡ isZero (now (t .entry)) at (8 * count) ⌝ }
+{
+    let mut ok = true;
+    for k in 0..count {
+        ok = ok & (u64_at(t, at + 8 * k) == 0);
     }
     ok
 }

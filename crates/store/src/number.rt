@@ -100,7 +100,7 @@ pub fn open_change_number(t: &[u8], i: u64, target: &[u8]) -> u64
     if items(t) as u64 <= i {
         return NO_SUCH_THING;
     }
-    if !quorum::is_valid(target, stations(t)) {
+    if !validity::is_valid(target, stations(t)) {
         return FALSE_CONFIGURATION;
     }
     if kind(t) != NO_ROUND {
@@ -277,7 +277,7 @@ pub fn lay_number(length: usize, n: u64, m: u64, config: &[u8]) -> u64
     if length != need {
         return UNSOUND;
     }
-    if !quorum::is_valid(config, n as usize) {
+    if !validity::is_valid(config, n as usize) {
         return FALSE_CONFIGURATION;
     }
     DONE

@@ -5,7 +5,7 @@ use mathlib.Core.Bool.{true}
 use Prim.Native.Nat.{_+_, _-_, _%_, _≤_}
 use borrow.Author.Tests.{not-true, not-false}
 use Rattle.quorum.proofs.Tests.{clash}
-use Rattle.quorum.proofs.Same.{none-yet}
+use Rattle.validity.proofs.Same.{none-yet}
 use Rattle.soundness.specs.Scan.{copiesTo}
 use Rattle.soundness.proofs.Scan.{fails, scan-less}
 use Rattle.soundness.proofs.copies_ok.Statement.{statement}

@@ -1,10 +1,4 @@
-use lib.ListN.{take, drop}
-use lib.Dec.{leb}
-use Rattle.quorum.specs.Bytes.{number}
-use Rattle.layout.specs.Layout.{kindAt}
-use Rattle.layout.specs.Soundness.{soundness}
 use Rattle.soundness.specs.Scan.{headSound}
-use Rattle.soundness.proofs.Scan.{joined-all}
 use borrow.Author.Needs.{needs}
 use Rattle.soundness.proofs.head_ok.Statement.{statement}
 use Rattle.soundness.proofs.head_ok.Tie as tie
@@ -30,20 +24,20 @@ item-requires c κs = search needs
 items-requires : tie.Need-items-requires
 items-requires c κs = search needs
 
-is-within-requires : tie.Need-is-within-requires
-is-within-requires c κs = search needs
-
 polled-requires : tie.Need-polled-requires
 polled-requires c κs = search needs
 
-is-within-requires-2 : tie.Need-is-within-requires-2
-is-within-requires-2 c κs = search needs
+united-requires : tie.Need-united-requires
+united-requires c κs = search needs
 
-is-within-requires-3 : tie.Need-is-within-requires-3
-is-within-requires-3 c κs = search needs
+united-requires-2 : tie.Need-united-requires-2
+united-requires-2 c κs = search needs
 
-is-within-requires-4 : tie.Need-is-within-requires-4
-is-within-requires-4 c κs = search needs
+united-requires-3 : tie.Need-united-requires-3
+united-requires-3 c κs = search needs
+
+is-within-requires : tie.Need-is-within-requires
+is-within-requires c κs = search needs
 
 share-station-requires : tie.Need-share-station-requires
 share-station-requires c κs = search needs
@@ -55,9 +49,8 @@ is-blank-requires : tie.Need-is-blank-requires
 is-blank-requires c κs = search needs
 
 returns : tie.Need-returns
-unfolding headSound soundness
-returns c = let t = c .before .before .before .before .before .before .before .before .before .before .before .before .before .before .before .before .args .t .now in
-    cc (joined-all (leb (number t kindAt 1) 3) (take 7 (drop 6 (soundness t))))
+unfolding headSound
+returns c = cc
 
 pub head-ok-spec : {M : Type 1} → statement M
 head-ok-spec =
@@ -70,11 +63,11 @@ head-ok-spec =
     kind-requires
     item-requires
     items-requires
-    is-within-requires
     polled-requires
-    is-within-requires-2
-    is-within-requires-3
-    is-within-requires-4
+    united-requires
+    united-requires-2
+    united-requires-3
+    is-within-requires
     share-station-requires
     share-station-requires-2
     is-blank-requires

@@ -1,6 +1,7 @@
 use native.Mathlib.Omega.{arith}
 use Prim.Native.Nat.{_≤_}
 use Rattle.layout.specs.Soundness.{roundSound}
+use Rattle.soundness.specs.Scan.{roundBlank}
 use Rattle.soundness.proofs.Scan.{other-kind}
 use borrow.Author.Needs.{needs}
 use Rattle.soundness.proofs.round_ok.Statement.{statement}
@@ -12,8 +13,8 @@ kind-requires c κs = search needs
 is-blank-requires : tie.Need-is-blank-requires
 is-blank-requires c κs = search needs
 
-is-blank-requires-2 : tie.Need-is-blank-requires-2
-is-blank-requires-2 c κs = search needs
+blank-words-requires : tie.Need-blank-words-requires
+blank-words-requires c κs = search needs
 
 data-puts-requires : tie.Need-data-puts-requires
 data-puts-requires c κs = search needs
@@ -21,43 +22,34 @@ data-puts-requires c κs = search needs
 config-puts-requires : tie.Need-config-puts-requires
 config-puts-requires c κs = search needs
 
-is-blank-requires-3 : tie.Need-is-blank-requires-3
-is-blank-requires-3 c κs = search needs
+blank-words-requires-2 : tie.Need-blank-words-requires-2
+blank-words-requires-2 c κs = search needs
 
 config-puts-requires-2 : tie.Need-config-puts-requires-2
 config-puts-requires-2 c κs = search needs
 
-is-blank-requires-4 : tie.Need-is-blank-requires-4
-is-blank-requires-4 c κs = search needs
+blank-words-requires-3 : tie.Need-blank-words-requires-3
+blank-words-requires-3 c κs = search needs
 
 value-requires : tie.Need-value-requires
 value-requires c κs = search needs
 
-target-requires : tie.Need-target-requires
-target-requires c κs = search needs
-
-stations-requires : tie.Need-stations-requires
-stations-requires c κs = search needs
-
-is-valid-requires : tie.Need-is-valid-requires
-is-valid-requires c κs = search needs
-
 returns : tie.Need-returns
-unfolding roundSound
+unfolding roundSound roundBlank
 returns c = rw (← c .before .before .before .kind .ensures, c .before .before .match .keys1) (cc)
 
 returns-2 : tie.Need-returns-2
-unfolding roundSound
+unfolding roundSound roundBlank
 returns-2 c = rw (← c .before .before .before .before .kind .ensures, c .before .before .before .match .keys2) (cc)
 
 returns-3 : tie.Need-returns-3
-unfolding roundSound
+unfolding roundSound roundBlank
 returns-3 c = rw (← c .before .before .before .kind .ensures, c .before .before .match .keys3) (cc)
 
 returns-4 : tie.Need-returns-4
-unfolding roundSound
-returns-4 c = let h : 3 ≤ c .before .before .before .before .before .kind .result = omega arith in
-    rw (← c .before .before .before .before .before .kind .ensures, other-kind (c .before .before .before .before .before .kind .result) h) (cc)
+unfolding roundBlank
+returns-4 c = let h : 3 ≤ c .before .before .kind .result = omega arith in
+    rw (← c .before .before .kind .ensures, other-kind (c .before .before .kind .result) h) (cc)
 
 pub round-ok-spec : {M : Type 1} → statement M
 round-ok-spec =
@@ -65,16 +57,13 @@ round-ok-spec =
     (tie.spec
     kind-requires
     is-blank-requires
-    is-blank-requires-2
+    blank-words-requires
     data-puts-requires
     config-puts-requires
-    is-blank-requires-3
+    blank-words-requires-2
     config-puts-requires-2
-    is-blank-requires-4
+    blank-words-requires-3
     value-requires
-    target-requires
-    stations-requires
-    is-valid-requires
     returns
     returns-2
     returns-3
