@@ -1,5 +1,5 @@
 -- What commit and lay write, as lists of bytes.
-use mathlib.Core.Path.{_≡_, refl, sym, _∙_}
+use mathlib.Core.Path.{_≡_, refl, sym, ap, _∙_}
 use mathlib.Core.Bool.{Bool, true, cond}
 use mathlib.Core.List.{List, _∷_, _++_, append-assoc, append-nil}
 use Prim.Native.Nat.{ℕ, zero, suc, _+_, _-_, _*_, _≤_, _<_}
@@ -10,11 +10,12 @@ use lib.ListN.{length, take, drop, replicate, length-append, length-drop, take-a
 use lib.Seq.{take-all, drop-drop}
 use Rattle.quorum.specs.Sets.{member}
 use Rattle.quorum.specs.Bytes.{part}
+use Rattle.quorum.proofs.Promise.{promise}
 use Rattle.layout.specs.Layout.{headSize, copySize, configSize, address, tableLength}
 use Rattle.layout.specs.Fields.{stations, items, roundOf}
 use Rattle.layout.specs.Soundness.{sound}
 use Rattle.layout.specs.Updates.{bytesOf, over, putData, putConfig, copyBytes}
-use Rattle.layout.specs.View.{view}
+use Rattle.layout.specs.View.{State, view}
 use Rattle.layout.proofs.Parts.{part-left, part-length, length-over, part-inside, part-whole, part-before, part-after, length-bytes, over-append}
 use Rattle.layout.proofs.Writing.{over-all}
 use Rattle.layout.proofs.Fields.{address-head, address-fits, copy-length}
@@ -23,6 +24,15 @@ use Rattle.rules.specs.Figures.{Figures}
 use Rattle.rules.specs.After.{putCopies, repeated, laid}
 
 -- ---- commit
+-- without puts every copy stays as it was
+pub no-puts : (t : List ℕ) (v : State) (f : Figures) (n : ℕ) → v .round .dataPuts ≡ 0 → v .round .configPuts ≡ 0 → putCopies t v f n ≡ t
+unfolding putCopies
+no-puts t v f zero d c = refl
+no-puts t v f (suc s) d c =
+    let no-data = ap (λ set. member set s) d ∙ promise .member-empty s in
+    let no-config = ap (λ set. member set s) c ∙ promise .member-empty s in
+    rw (no-data, no-config) (no-puts t v f s d c)
+
 -- where the copy of the round's item at a station starts
 abbrev pub roundAt : List ℕ → ℕ → ℕ
 roundAt t s = address (stations t) (roundOf t .item) s

@@ -55,8 +55,8 @@ fn put_config_if(
     }
 }
 
-// Every put of the open round takes effect.
-fn put_copies(t: &mut [u8], value: u64, version: Version, generation: Generation)
+// Every put of the open round takes effect, station by station.
+fn put_each(t: &mut [u8], value: u64, version: Version, generation: Generation)
     requires { ⌜ sound (now t) ≡ true ⌝ }
     ensures { λ _. ⌜ now (t .exit) ≡ putCopies (now (t .entry)) (view (now (t .entry))) (record { first = value; second = version .0; third = generation .0 }) (stations (now (t .entry))) ⌝ }
 {
@@ -70,6 +70,17 @@ fn put_copies(t: &mut [u8], value: u64, version: Version, generation: Generation
         put_data_if(t, at, quorum::is_member(data, s), version, value);
         put_config_if(t, at, quorum::is_member(config, s), generation, target);
     }
+}
+
+// The same; a round without puts, as every read is, leaves the copies alone.
+fn put_copies(t: &mut [u8], value: u64, version: Version, generation: Generation)
+    requires { ⌜ sound (now t) ≡ true ⌝ }
+    ensures { λ _. ⌜ now (t .exit) ≡ putCopies (now (t .entry)) (view (now (t .entry))) (record { first = value; second = version .0; third = generation .0 }) (stations (now (t .entry))) ⌝ }
+{
+    if (data_puts(t) == 0) & (config_puts(t) == 0) {
+        return;
+    }
+    put_each(t, value, version, generation)
 }
 
 // The same, and the round closes.
