@@ -1,7 +1,8 @@
 /*
  * Times the library beside the optimised C in one run.
  *
- *   bench [--samples N]             a Markdown table: each call and whole rounds
+ *   bench [--samples N]             a Markdown table: calls, whole rounds and
+ *                                   refusals; behind it the highest ratios
  *   bench --growth [--samples N]    a CSV table: cost against the number of copies
  *
  * A sample is the mean time of a batch of runs. Batches of the two
@@ -28,8 +29,26 @@ enum { SAMPLES_MOST = 10001, SIDES = 2 };
 static const double BATCH_NS = 20000;
 static const double WARM_UP_NS = 3e8;
 
+/* What configurations a table's copies have: majorities, so many a side. */
+typedef enum { ALIKE, BY_ITEM, BY_COPY } variety;
+
+typedef struct {
+    const char *name;
+    variety differ; /* which neighbours have different ones */
+    unsigned sets;
+} kind;
+
+static const kind KINDS[] = {
+    {"alike", ALIKE, 8},
+    {"by item", BY_ITEM, 8},
+    {"different, 8 sets", BY_COPY, 8},
+    {"different, 3 sets", BY_COPY, 3},
+};
+enum { KIND_COUNT = sizeof KINDS / sizeof KINDS[0] };
+
 /* A table and what is to be done on item 0 of it. */
 typedef struct {
+    const kind *kind;
     unsigned n;
     unsigned m;
     size_t len;
@@ -40,7 +59,7 @@ typedef struct {
     uint8_t saved[OSPREYSCREEN_TABLE_LENGTH_MAX];
 } scene;
 
-/* One run; gives 0 if every call in it was done. */
+/* One run; gives the numbers of its calls, joined by or. */
 typedef uint64_t run_function(const implementation *with, scene *s);
 
 /* How much of the table a run sets back. */
@@ -51,6 +70,7 @@ typedef struct {
     run_function *prepare; /* brings the table to where the run starts */
     run_function *run;
     extent set_back;
+    uint64_t number; /* what every run gives */
 } row;
 
 typedef struct {
@@ -171,22 +191,89 @@ static uint64_t change_round(const implementation *with, scene *s)
     return change_to_commit(with, s) | commit(with, s);
 }
 
+/* ---- Runs that are refused, and what goes before them ---- */
+
+/* The configuration with a first read set that misses the first write set. */
+static void set_apart(const scene *s, uint8_t *config)
+{
+    unsigned apart = ((1u << s->n) - 1) & ~((1u << s->quorum) - 1);
+    config[0] = (uint8_t)apart;
+    config[1] = (uint8_t)(apart >> 8);
+}
+
+static uint64_t spoil_head(const implementation *with, scene *s)
+{
+    uint64_t numbers = read_to_commit(with, s);
+    s->table[12] = 1;
+    return numbers;
+}
+
+static uint64_t spoil_last_copy(const implementation *with, scene *s)
+{
+    uint64_t numbers = read_to_commit(with, s);
+    set_apart(s, s->table + s->len - OSPREYSCREEN_CONFIGURATION_LENGTH);
+    return numbers;
+}
+
+static uint64_t spoil_config(const implementation *with, scene *s)
+{
+    (void)with;
+    set_apart(s, s->config);
+    return 0;
+}
+
+static uint64_t spend_version(const implementation *with, scene *s)
+{
+    uint64_t numbers = write_to_puts(with, s);
+    memset(s->table + OSPREYSCREEN_HEAD_LENGTH, 0xFF, 8);
+    return numbers;
+}
+
+static uint64_t read_while_off(const implementation *with, scene *s)
+{
+    return open_read(with, s) | with->link(s->table, s->len, s->quorum - 1, OSPREYSCREEN_LINK_OFF).number;
+}
+
+static uint64_t poll_longer(const implementation *with, scene *s)
+{
+    return with->poll(s->table, s->len + OSPREYSCREEN_COPY_LENGTH, s->quorum - 1).number;
+}
+
+static uint64_t poll_beyond(const implementation *with, scene *s)
+{
+    return with->poll(s->table, s->len, s->n).number;
+}
+
 static const row ROWS[] = {
-    {"lay", nothing, lay, NOTHING},
-    {"open read", nothing, open_read, HEAD},
-    {"open write", nothing, open_write, HEAD},
-    {"open change", nothing, open_change, HEAD},
-    {"poll", read_to_commit, poll_last, NOTHING},
-    {"put", write_to_puts, put_last, NOTHING},
-    {"commit of a read", read_to_commit, commit, HEAD},
-    {"commit of a write", write_to_commit, commit, HEAD},
-    {"commit of a change", change_to_commit, commit, HEAD_AND_ITEM},
-    {"abandon", read_to_commit, abandon, HEAD},
-    {"link", nothing, link_last, NOTHING},
-    {"reach", nothing, reach, NOTHING},
-    {"read round", nothing, read_round, NOTHING},
-    {"write round", nothing, write_round, NOTHING},
-    {"change round", nothing, change_round, HEAD_AND_ITEM},
+    {"lay", nothing, lay, NOTHING, OSPREYSCREEN_DONE},
+    {"open read", nothing, open_read, HEAD, OSPREYSCREEN_DONE},
+    {"open write", nothing, open_write, HEAD, OSPREYSCREEN_DONE},
+    {"open change", nothing, open_change, HEAD, OSPREYSCREEN_DONE},
+    {"poll", read_to_commit, poll_last, NOTHING, OSPREYSCREEN_DONE},
+    {"put", write_to_puts, put_last, NOTHING, OSPREYSCREEN_DONE},
+    {"commit of a read", read_to_commit, commit, HEAD, OSPREYSCREEN_DONE},
+    {"commit of a write", write_to_commit, commit, HEAD, OSPREYSCREEN_DONE},
+    {"commit of a change", change_to_commit, commit, HEAD_AND_ITEM, OSPREYSCREEN_DONE},
+    {"abandon", read_to_commit, abandon, HEAD, OSPREYSCREEN_DONE},
+    {"link", nothing, link_last, NOTHING, OSPREYSCREEN_DONE},
+    {"reach", nothing, reach, NOTHING, OSPREYSCREEN_DONE},
+    {"read round", nothing, read_round, NOTHING, OSPREYSCREEN_DONE},
+    {"write round", nothing, write_round, NOTHING, OSPREYSCREEN_DONE},
+    {"change round", nothing, change_round, HEAD_AND_ITEM, OSPREYSCREEN_DONE},
+    {"unsound: length", read_to_commit, poll_longer, NOTHING, OSPREYSCREEN_UNSOUND},
+    {"unsound: byte 12", spoil_head, poll_last, NOTHING, OSPREYSCREEN_UNSOUND},
+    {"unsound: last copy", spoil_last_copy, poll_last, NOTHING, OSPREYSCREEN_UNSOUND},
+    {"no such station", read_to_commit, poll_beyond, NOTHING, OSPREYSCREEN_NO_SUCH_THING},
+    {"lay: false configuration", spoil_config, lay, NOTHING, OSPREYSCREEN_FALSE_CONFIGURATION},
+    {"false target", spoil_config, open_change, NOTHING, OSPREYSCREEN_FALSE_CONFIGURATION},
+    {"busy", read_to_commit, open_read, NOTHING, OSPREYSCREEN_BUSY},
+    {"idle", nothing, commit, NOTHING, OSPREYSCREEN_IDLE},
+    {"off the bus", read_while_off, poll_last, NOTHING, OSPREYSCREEN_OFF_THE_BUS},
+    {"reading over", write_to_commit, poll_last, NOTHING, OSPREYSCREEN_READING_OVER},
+    {"unheard", open_write, put_last, NOTHING, OSPREYSCREEN_UNHEARD},
+    {"wrong put", read_to_commit, put_last, NOTHING, OSPREYSCREEN_WRONG_PUT},
+    {"spent", spend_version, put_last, NOTHING, OSPREYSCREEN_SPENT},
+    {"short", write_to_puts, commit, NOTHING, OSPREYSCREEN_SHORT},
 };
 enum { ROW_COUNT = sizeof ROWS / sizeof ROWS[0] };
 
@@ -198,33 +285,50 @@ static _Noreturn void give_up(const char *what, const char *name)
     exit(EXIT_FAILURE);
 }
 
-/* Gives every copy a configuration that differs from the one before it; n is
- * 3 or more, since fewer stations have one majority only. */
+/* Majorities, as many a side as the scene's kind says. */
+static void majorities(rng *r, const scene *s, uint8_t config[OSPREYSCREEN_CONFIGURATION_LENGTH])
+{
+    static const size_t side = OSPREYSCREEN_CONFIGURATION_LENGTH / 2;
+    size_t used = 2 * s->kind->sets;
+
+    configuration_majorities(r, s->n, config);
+    memset(config + used, 0, side - used);
+    memset(config + side + used, 0, side - used);
+}
+
+/* Gives every copy, or every item, a configuration that differs from the one
+ * before it; n is 3 or more, since fewer stations have one majority only. */
 static void differ(rng *r, scene *s)
 {
     const uint8_t *before = s->config;
-    for (size_t at = OSPREYSCREEN_HEAD_LENGTH; at < s->len; at += OSPREYSCREEN_COPY_LENGTH) {
+    size_t copy = 0;
+    for (size_t at = OSPREYSCREEN_HEAD_LENGTH; at < s->len; at += OSPREYSCREEN_COPY_LENGTH, copy++) {
         uint8_t *config = s->table + at + 24;
+        if (s->kind->differ == BY_ITEM && copy % s->n != 0) {
+            memcpy(config, before, OSPREYSCREEN_CONFIGURATION_LENGTH);
+            continue;
+        }
         do {
-            configuration_majorities(r, s->n, config);
+            majorities(r, s, config);
         } while (memcmp(config, before, OSPREYSCREEN_CONFIGURATION_LENGTH) == 0);
         before = config;
     }
 }
 
-static void set_scene(scene *s, unsigned n, unsigned m, bool alike)
+static void set_scene(scene *s, const kind *k, unsigned n, unsigned m)
 {
     rng r = {n * 100 + m};
 
+    s->kind = k;
     s->n = n;
     s->m = m;
     s->len = OSPREYSCREEN_TABLE_LENGTH(n, m);
     s->quorum = n / 2 + 1;
-    configuration_majorities(&r, n, s->config);
+    majorities(&r, s, s->config);
     if (lay(&OPTIMISED, s) != 0) {
         give_up("refused", "lay");
     }
-    if (!alike) {
+    if (k->differ != ALIKE) {
         differ(&r, s);
     }
     memcpy(s->saved, s->table, s->len);
@@ -256,17 +360,17 @@ static double now_ns(void)
 /* The mean time of a run in a batch of so many. */
 static double batch(const implementation *with, scene *s, const row *w, unsigned runs)
 {
-    uint64_t numbers = 0;
+    uint64_t wrong = 0;
 
     memcpy(s->table, s->saved, s->len);
     double start = now_ns();
     for (unsigned i = 0; i < runs; i++) {
         memcpy(s->table, s->saved, s->set_back);
-        numbers |= w->run(with, s);
+        wrong |= w->run(with, s) ^ w->number;
     }
     double time = now_ns() - start;
-    if (numbers != 0) {
-        give_up("refused", w->name);
+    if (wrong != 0) {
+        give_up("gives another number", w->name);
     }
     return time / runs;
 }
@@ -312,7 +416,7 @@ static void warm_up(scene *s)
     const row *w = &ROWS[0];
     double start = now_ns();
 
-    set_scene(s, 3, 1, true);
+    set_scene(s, &KINDS[0], 3, 1);
     set_row(s, w);
     while (now_ns() - start < WARM_UP_NS) {
         batch(&LIBRARY, s, w, 100);
@@ -322,33 +426,72 @@ static void warm_up(scene *s)
 
 /* ---- Tables ---- */
 
-static void print_row(const scene *s, const char *kind, const char *name, const timing t[SIDES])
+/* The highest ratio so far and where it was. */
+typedef struct {
+    double ratio;
+    char where[100];
+} peak;
+
+typedef struct {
+    peak minimum;
+    peak median;
+    unsigned rows;
+    unsigned high; /* rows with a ratio of minima above HIGH */
+} summary;
+
+static const double HIGH = 1.10;
+
+static void raise(peak *p, double ratio, const scene *s, const row *w)
 {
-    printf("| %u x %u | %s | %s | %.1f | %.1f | %.2f | %.1f | %.1f | %.2f |\n", s->n, s->m, kind,
-           name, t[0].minimum, t[1].minimum, t[0].minimum / t[1].minimum, t[0].median, t[1].median,
-           t[0].median / t[1].median);
-    fflush(stdout);
+    if (ratio > p->ratio) {
+        p->ratio = ratio;
+        snprintf(p->where, sizeof p->where, "%u x %u, %s, %s", s->n, s->m, s->kind->name, w->name);
+    }
 }
 
-/* Each call and whole rounds on three sizes. */
+static void print_row(const scene *s, const row *w, const timing t[SIDES], summary *sum)
+{
+    double minima = t[0].minimum / t[1].minimum;
+    double medians = t[0].median / t[1].median;
+
+    printf("| %u x %u | %s | %s | %.1f | %.1f | %.2f | %.1f | %.1f | %.2f |\n", s->n, s->m,
+           s->kind->name, w->name, t[0].minimum, t[1].minimum, minima, t[0].median, t[1].median,
+           medians);
+    fflush(stdout);
+    raise(&sum->minimum, minima, s, w);
+    raise(&sum->median, medians, s, w);
+    sum->rows++;
+    sum->high += minima > HIGH;
+}
+
+static void print_summary(const summary *sum)
+{
+    printf("\nHighest ratio of minima: %.2f (%s).\n", sum->minimum.ratio, sum->minimum.where);
+    printf("Highest ratio of medians: %.2f (%s).\n", sum->median.ratio, sum->median.where);
+    printf("Rows with a ratio of minima above %.2f: %u of %u.\n", HIGH, sum->high, sum->rows);
+}
+
+/* All rows on three sizes. */
 static void print_table(scene *s, unsigned samples)
 {
     static const unsigned sizes[][2] = {{3, 1}, {5, 8}, {16, 32}};
     timing t[SIDES];
+    summary sum = {.rows = 0};
 
     printf("Times in nanoseconds; `library` / `C`, minimum and median of %u samples.\n\n", samples);
     printf("| table | configurations | call | library min | C min | ratio | library median | "
            "C median | ratio |\n|---|---|---|---|---|---|---|---|---|\n");
     for (unsigned size = 0; size < sizeof sizes / sizeof sizes[0]; size++) {
-        for (int alike = 1; alike >= 0; alike--) {
+        for (unsigned k = 0; k < KIND_COUNT; k++) {
             for (unsigned i = 0; i < ROW_COUNT; i++) {
-                set_scene(s, sizes[size][0], sizes[size][1], alike != 0);
+                set_scene(s, &KINDS[k], sizes[size][0], sizes[size][1]);
                 set_row(s, &ROWS[i]);
                 measure(s, &ROWS[i], samples, t);
-                print_row(s, alike ? "alike" : "different", ROWS[i].name, t);
+                print_row(s, &ROWS[i], t, &sum);
             }
         }
     }
+    print_summary(&sum);
 }
 
 static const row *row_named(const char *name)
@@ -373,22 +516,34 @@ static void print_growth_row(scene *s, const char *label, const char *name, unsi
     fflush(stdout);
 }
 
+static const kind *kind_named(const char *name)
+{
+    for (unsigned i = 0; i < KIND_COUNT; i++) {
+        if (strcmp(KINDS[i].name, name) == 0) {
+            return &KINDS[i];
+        }
+    }
+    give_up("no kind", name);
+}
+
 /* A poll and a lay on tables from one copy to the most. */
 static void print_growth(scene *s, unsigned samples)
 {
     static const unsigned sizes[][2] = {{1, 1},  {2, 1},  {2, 2},  {4, 2},   {4, 4},
                                         {8, 4},  {8, 8},  {16, 8}, {16, 16}, {16, 32}};
+    const kind *alike = kind_named("alike");
+    const kind *different = kind_named("different, 8 sets");
 
     printf("call,n,m,copies,library_ns,c_ns\n");
     for (unsigned i = 0; i < sizeof sizes / sizeof sizes[0]; i++) {
         unsigned n = sizes[i][0];
         unsigned m = sizes[i][1];
-        set_scene(s, n, m, true);
+        set_scene(s, alike, n, m);
         print_growth_row(s, "lay", "lay", samples);
-        set_scene(s, n, m, true);
+        set_scene(s, alike, n, m);
         print_growth_row(s, "poll (alike)", "poll", samples);
         if (n > 2) {
-            set_scene(s, n, m, false);
+            set_scene(s, different, n, m);
             print_growth_row(s, "poll (different)", "poll", samples);
         }
     }

@@ -3,7 +3,9 @@
  *
  * Bytes are read and written as 64-bit words, so this file is for hosts that
  * keep the least significant byte first. A word of a configuration has four
- * station sets in lanes of 16 bits, and tests work on all four at once.
+ * station sets in lanes of 16 bits, a vector register all eight of a side, and
+ * tests work on all of them at once. (The vectors are gcc's and clang's own,
+ * with no instruction written out.)
  */
 #include "optimised.h"
 
@@ -32,6 +34,9 @@ typedef struct {
     side read;
     side write;
 } configuration;
+
+/* The same eight sets as lanes of one vector register. */
+typedef uint16_t lanes __attribute__((vector_size(16)));
 
 /* The head of a table; its sets as numbers of 16 bits. */
 typedef struct {
@@ -92,13 +97,6 @@ static inline uint64_t used(uint64_t sets)
     return (((sets & ~TOPS) + ~TOPS) | sets) & TOPS;
 }
 
-/* The sets with all stations in each unused place. */
-static inline uint64_t filled(uint64_t sets, uint64_t used_tops)
-{
-    uint64_t unused = (TOPS ^ used_tops) >> 15;
-    return sets | ((unused << 16) - unused);
-}
-
 /* Both sides at once: the used read places as the highest bits of their
  * lanes, the used write places as the bits below. Not zero if an unused place
  * stands in front of a used one, or if a first place is unused. */
@@ -109,44 +107,34 @@ static inline uint64_t gaps(side read_used, side write_used)
     return (~both.low & (next | 0xC000)) | (~both.high & both.high >> 16);
 }
 
-/* All top bits if no lane of the word is zero, and not all of them else: the
- * complement of (word - ONES) & ~word, as ~(word - ONES) is ONES - 1 - word. */
-static inline uint64_t no_zero_lane(uint64_t word)
+/* All stations in each unused place, so that it shares one with every set. */
+static inline lanes fill(lanes s)
 {
-    return (ONES - 1 - word) | word;
+    return s | (lanes)(s == 0);
 }
 
-static inline uint64_t turned(uint64_t sets)
-{
-    return sets >> 16 | sets << 48;
-}
-
-/* All top bits if each set of one side shares a station with each set of the
- * other; in each turn every set meets two others. */
-static inline uint64_t meet(side a, side b)
-{
-    uint64_t met = TOPS;
-    for (int turn = 0; turn < 4; turn++) {
-        met &= no_zero_lane(a.low & b.low);
-        met &= no_zero_lane(a.low & b.high);
-        met &= no_zero_lane(a.high & b.low);
-        met &= no_zero_lane(a.high & b.high);
-        a.low = turned(a.low);
-        a.high = turned(a.high);
-    }
-    return met;
-}
-
+/* Range and gaps on words of four sets; then eight pairs at a time, one AND
+ * and one comparison each, all 64 without a branch. */
 static inline bool valid(configuration c, uint64_t n)
 {
     uint64_t outside = (UINT64_C(0xFFFF) << n & 0xFFFF) * ONES;
     uint64_t named = c.read.low | c.read.high | c.write.low | c.write.high;
     side read_used = {used(c.read.low), used(c.read.high)};
     side write_used = {used(c.write.low), used(c.write.high)};
-    side read = {filled(c.read.low, read_used.low), filled(c.read.high, read_used.high)};
-    side write = {filled(c.write.low, write_used.low), filled(c.write.high, write_used.high)};
-
-    return ((meet(read, write) ^ TOPS) | gaps(read_used, write_used) | (named & outside)) == 0;
+    if ((gaps(read_used, write_used) | (named & outside)) != 0) {
+        return false;
+    }
+    lanes read, write, apart = {0};
+    memcpy(&read, &c.read, sizeof read);
+    memcpy(&write, &c.write, sizeof write);
+    read = fill(read);
+    write = fill(write);
+    for (int i = 0; i < 8; i++) {
+        apart |= (lanes)((write & read[i]) == 0);
+    }
+    uint64_t halves[2];
+    memcpy(halves, &apart, sizeof halves);
+    return (halves[0] | halves[1]) == 0;
 }
 
 /* Whether the stations hold a used set of the side. */
