@@ -254,9 +254,14 @@ static inline bool read_sound(head *h, const uint8_t *table, size_t len)
 
 /* ---- Rounds ---- */
 
+static inline size_t item_start(const head *h, uint64_t item)
+{
+    return HEAD + COPY * h->n * item;
+}
+
 static inline uint8_t *item_copies(uint8_t *table, const head *h, uint64_t item)
 {
-    return table + HEAD + COPY * h->n * item;
+    return table + item_start(h, item);
 }
 
 /* The copy with the highest counter at the offset, the lowest station among
@@ -546,7 +551,7 @@ ospreyscreen_reply opt_link(uint8_t *table, size_t len, uint64_t station, uint64
     return done(0, 0, 0);
 }
 
-ospreyscreen_reply opt_reach(uint8_t *table, size_t len, uint64_t item)
+ospreyscreen_reply opt_reach(const uint8_t *table, size_t len, uint64_t item)
 {
     head h;
 
@@ -558,7 +563,7 @@ ospreyscreen_reply opt_reach(uint8_t *table, size_t len, uint64_t item)
     }
     uint64_t all = (UINT64_C(1) << h.n) - 1;
     uint64_t on = all & ~h.off;
-    const uint8_t *found = newest(item_copies(table, &h, item), all, GENERATION);
+    const uint8_t *found = newest(table + item_start(&h, item), all, GENERATION);
     configuration c = get_configuration(found + CONFIGURATION);
     if (!holds(on, c.read)) {
         return done(OSPREYSCREEN_REACH_NOTHING, 0, 0);

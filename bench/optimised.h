@@ -18,6 +18,6 @@ ospreyscreen_reply opt_put(uint8_t *table, size_t len, uint64_t station, uint64_
 ospreyscreen_reply opt_commit(uint8_t *table, size_t len);
 ospreyscreen_reply opt_abandon(uint8_t *table, size_t len);
 ospreyscreen_reply opt_link(uint8_t *table, size_t len, uint64_t station, uint64_t state);
-ospreyscreen_reply opt_reach(uint8_t *table, size_t len, uint64_t item);
+ospreyscreen_reply opt_reach(const uint8_t *table, size_t len, uint64_t item);
 
 #endif

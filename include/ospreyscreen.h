@@ -229,7 +229,7 @@ ospreyscreen_reply ospreyscreen_link(uint8_t *table, size_t len, uint64_t statio
  * write sets, else 0.
  * Refusals: 1 table, 2 item.
  */
-ospreyscreen_reply ospreyscreen_reach(uint8_t *table, size_t len, uint64_t item);
+ospreyscreen_reply ospreyscreen_reach(const uint8_t *table, size_t len, uint64_t item);
 
 #ifdef __cplusplus
 }

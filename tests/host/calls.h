@@ -34,7 +34,7 @@ typedef struct {
     ospreyscreen_reply (*commit)(uint8_t *, size_t);
     ospreyscreen_reply (*abandon)(uint8_t *, size_t);
     ospreyscreen_reply (*link)(uint8_t *, size_t, uint64_t, uint64_t);
-    ospreyscreen_reply (*reach)(uint8_t *, size_t, uint64_t);
+    ospreyscreen_reply (*reach)(const uint8_t *, size_t, uint64_t);
 } implementation;
 
 /* An implementation's table, from the prefix of its ten functions. */

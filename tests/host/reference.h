@@ -19,6 +19,6 @@ ospreyscreen_reply ref_put(uint8_t *table, size_t len, uint64_t station, uint64_
 ospreyscreen_reply ref_commit(uint8_t *table, size_t len);
 ospreyscreen_reply ref_abandon(uint8_t *table, size_t len);
 ospreyscreen_reply ref_link(uint8_t *table, size_t len, uint64_t station, uint64_t state);
-ospreyscreen_reply ref_reach(uint8_t *table, size_t len, uint64_t item);
+ospreyscreen_reply ref_reach(const uint8_t *table, size_t len, uint64_t item);
 
 #endif

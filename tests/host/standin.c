@@ -49,7 +49,7 @@ ospreyscreen_reply ospreyscreen_link(uint8_t *table, size_t len, uint64_t statio
     return opt_link(table, len, station, state);
 }
 
-ospreyscreen_reply ospreyscreen_reach(uint8_t *table, size_t len, uint64_t item)
+ospreyscreen_reply ospreyscreen_reach(const uint8_t *table, size_t len, uint64_t item)
 {
     return opt_reach(table, len, item);
 }

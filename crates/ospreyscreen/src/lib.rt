@@ -212,9 +212,8 @@ pub extern "C" fn ospreyscreen_link(table: &mut [u8], station: u64, state: u64) 
 }
 
 #[no_mangle]
-pub extern "C" fn ospreyscreen_reach(table: &mut [u8], i: u64) -> Reply
+pub extern "C" fn ospreyscreen_reach(table: &[u8], i: u64) -> Reply
     ensures { λ r. ⌜ r ≡ reply (now (table .entry)) (reach i) ⌝ }
-    ensures { λ _. ⌜ now (table .exit) ≡ after (now (table .entry)) (reach i) ⌝ }
 {
     let number = reach_number(table, i);
     if number != DONE {

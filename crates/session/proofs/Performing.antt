@@ -7,7 +7,7 @@ use Prim.Native.Nat.{ℕ, zero, suc, _≤_}
 use native.Mathlib.Omega.{arith}
 use lib.ListN.{length, take, drop, length-replicate, take-append-drop}
 use lib.Seq.{take-at, drop-at, length-take-le}
-use Rattle.rules.specs.Calls.{Call, isLay, lay}
+use Rattle.rules.specs.Calls.{Call, isLay, lay, reach}
 use Rattle.rules.specs.Rules.{layLength}
 use Rattle.rules.specs.After.{done}
 use Rattle.rules.specs.Reply.{reply, after}
@@ -16,7 +16,7 @@ use Rattle.frames.specs.Frame.{callsOf, callAt}
 use Rattle.runs.specs.Session.{lent, replyOr, tableOr}
 use Rattle.session.specs.Performing.{largest, Holds}
 use Rattle.rules.proofs.Views.{done-after}
-use Rattle.rules.proofs.Demands.{twice}
+use Rattle.rules.proofs.Demands.{steps, twice}
 use Rattle.store.proofs.Sizes.{lay-length-le}
 use Rattle.runs.proofs.Lent.{lent-same, refused-after, replaced, kept, went-on}
 
@@ -57,6 +57,12 @@ module _ (old : List ℕ) (whole : length old ≡ largest) where
         rw (lent-same (take used old) c n) p,
         record { room = h .room; table = h .table ∙ q ∙ sym (went-on (take used old) c n); beyond = h .beyond },
       )
+
+  -- reach looks at the table in use, and nothing changes
+  pub looked : (used : ℕ) (o : Option Call) (i : ℕ) (r : Reply) → o ≡ some (reach i) → used ≤ largest → r ≡ reply (take used old) (reach i)
+      → (r ≡ replyOr (take used old) o) × Holds old old used (tableOr (take used old) o)
+  looked used o i r e l p =
+      rw (take-append-drop used old) at (performed used o (reach i) r (take used old) e refl l p (sym (steps .reach-changes-nothing (take used old) i)) refl)
 
   -- ---- lay: the bytes lent are of the length that the definition lends
   module _ (used n m value : ℕ) (config : List ℕ) where

@@ -99,7 +99,7 @@ fn perform(code: u8, bytes: &[u8], table: &mut [u8], used: usize) -> Performed
             return Performed { reply: r, used };
         }
         10 => {
-            let r = ospreyscreen::ospreyscreen_reach(&mut table[..used], frame::byte_at(bytes, 1));
+            let r = ospreyscreen::ospreyscreen_reach(&table[..used], frame::byte_at(bytes, 1));
             return Performed { reply: r, used };
         }
         _ => {

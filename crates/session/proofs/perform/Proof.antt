@@ -2,7 +2,7 @@ use mathlib.Core.Path.{refl}
 use native.Mathlib.Omega.{arith}
 use lib.ListN.{length-take}
 use Rattle.frames.specs.Frame.{callsOf, callAt}
-use Rattle.session.proofs.Performing.{performed, other-code}
+use Rattle.session.proofs.Performing.{performed, looked, other-code}
 use borrow.Author.Needs.{needs}
 use Rattle.session.proofs.perform.Statement.{statement}
 use Rattle.session.proofs.perform.Tie as tie
@@ -238,8 +238,8 @@ returns-9 c =
     performed (a .table .now) (s .pre .1) (a .used) (callAt (a .code) (a .bytes .now)) _ (x .result) (x .last .0)
     (rw (k, y .ensures, z .ensures)) refl (s .pre .2) (x .ensures .0) (x .ensures .1) (x .kept .0)
 
-slice-relend-prefix-ospreyscreen-reach : tie.Need-slice-relend-prefix-ospreyscreen-reach
-slice-relend-prefix-ospreyscreen-reach c = search needs
+slice-reshare-prefix-ospreyscreen-reach : tie.Need-slice-reshare-prefix-ospreyscreen-reach
+slice-reshare-prefix-ospreyscreen-reach c = search needs
 
 slice-aggregate-ospreyscreen-reach : tie.Need-slice-aggregate-ospreyscreen-reach
 slice-aggregate-ospreyscreen-reach c = simp length-take (omega arith)
@@ -256,13 +256,12 @@ same-length-10 c = search needs
 returns-10 : tie.Need-returns-10
 unfolding callsOf
 returns-10 c =
-    let s = c .before .before .before .before .before .before .before .before in
+    let s = c .before .before .before .before .before .before in
     let a = s .args in
-    let k = c .before .before .before .before .before .match .keys10 in
-    let x = c .before .before .ospreyscreen-reach in
-    let y = c .before .before .before .byte-at9 in
-    performed (a .table .now) (s .pre .1) (a .used) (callAt (a .code) (a .bytes .now)) _ (x .result) (x .last .0)
-    (rw (k, y .ensures)) refl (s .pre .2) (x .ensures .0) (x .ensures .1) (x .kept .0)
+    let k = c .before .before .before .match .keys10 in
+    let x = c .ospreyscreen-reach in
+    let y = c .before .byte-at9 in
+    looked (a .table .now) (s .pre .1) (a .used) (callAt (a .code) (a .bytes .now)) _ (x .result) (rw (k, y .ensures)) (s .pre .2) (x .ensures)
 
 returns-11 : tie.Need-returns-11
 returns-11 c =
@@ -328,7 +327,7 @@ perform-spec =
     ospreyscreen-link-requires
     same-length-9
     returns-9
-    slice-relend-prefix-ospreyscreen-reach
+    slice-reshare-prefix-ospreyscreen-reach
     slice-aggregate-ospreyscreen-reach
     byte-at-requires-9
     ospreyscreen-reach-requires
