@@ -1,32 +1,41 @@
-// The unstarred cases of document 01, "Trays through the house", and the boundaries of the ten calls. The file `stdout` holds what
-// document 01 says of each; it was written from the paper, and EXPECTED.md gives the sentence for every case.
+// The unstarred cases of document 01, "Trays through the house", and the boundaries of the ten calls. The cases stand in the file
+// `stdin`, and `stdout` holds what document 01 says of each; it was written from the paper, and EXPECTED.md gives the sentence for
+// every case.
 //
-// A line that begins with # is a heading. Every other line is a case: its name and, after the colon, one reply or several, each a
-// number and three figures. Where there are several, the heading names their calls in order.
-mod config;
-mod ends;
-mod lays;
-mod lengths;
-mod rounds;
+// In `stdin` a line that begins with # is a heading, and is printed. Any other line has calls with commas between them: a word and
+// its numbers. A line that begins with a space is set-up: its calls are made, and nothing is printed. Any other line is a case: its
+// name, up to the colon, is printed, and then the reply to each of its calls, a number and three figures.
+//
+//     lay N M VALUE, read ITEM, write ITEM VALUE, change ITEM, poll STATION, put STATION SORT,
+//     commit, abandon, link STATION STATE, reach ITEM
+//
+// are the ten calls; lay and change are lent the configuration that was set last. These words say what is lent from then on, and have
+// no reply:
+//
+//     lend LENGTH         so many bytes of the one space, as the table
+//     pairs LENGTH        so many bytes of the pair sets 0003, 0005, 0006 on both sides, as the configuration
+//     sets READ WRITE     one read set and one write set, as the configuration
+//     byte AT VALUE       stores a byte in the table
+//     number AT VALUE     stores a number in eight bytes of the table
+//
+// And these have a row of replies (`rows.rt`):
+//
+//     nine                       the nine calls but lay
+//     three ROUND AT VALUE       the nine calls, reach and lay on a table of n 3, m 5 that has a round and one byte changed
+//     fifteen ROUND AT VALUE     the same on a table of n 15, m 1
+//
+// Any other word gets the number 99, in a set-up too.
+mod call;
+mod lent;
+mod perform;
+mod reading;
+mod rows;
+mod script;
 mod show;
-mod spent;
-mod unsound;
 
 fn main() {
-    let mut tray = [7u8; 224];
-    lays::sizes();
-    lays::configurations();
-    rounds::largest();
-    rounds::reaches(&mut tray);
-    spent::versions(&mut tray);
-    spent::generations(&mut tray);
-    ends::stations(&mut tray);
-    ends::items(&mut tray);
-    ends::sorts(&mut tray);
-    ends::states(&mut tray);
-    ends::targets(&mut tray);
-    lengths::lengths();
-    lengths::largest();
-    lengths::sizes();
-    unsound::rows();
+    let mut input = io::large_buffer();
+    let n = io::read_full(0, &mut input);
+    let mut space = [7u8; 30520];
+    script::run(&input[..n], &mut space);
 }

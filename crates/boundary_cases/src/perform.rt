@@ -1,0 +1,101 @@
+// What the words of the script do.
+use crate::call::UNKNOWN;
+use crate::call::call;
+use crate::lent::Lent;
+use crate::lent::config;
+use crate::lent::replace;
+use crate::lent::store;
+use crate::reading::Call;
+use crate::reading::code_of;
+use crate::rows;
+use crate::rows::calls;
+use crate::rows::damaged;
+use crate::show::reply;
+
+// The codes of the other words.
+const LEND: u64 = 11;
+
+const PAIRS: u64 = 12;
+
+const SETS: u64 = 13;
+
+const BYTE: u64 = 14;
+
+const NUMBER: u64 = 15;
+
+const NINE: u64 = 16;
+
+const THREE: u64 = 17;
+
+const FIFTEEN: u64 = 18;
+
+// The pair sets: 0003, 0005, 0006.
+const THE_PAIRS: u64 = 0x0006_0005_0003;
+
+// What a code does to the table.
+fn replies(table: &mut [u8], config: &[u8], code: u64, numbers: [u64; 4], shown: bool) {
+    let at = numbers[1] as usize;
+    match code {
+        LEND | PAIRS | SETS => {}
+        BYTE => {
+            replace(table, at, (numbers[2] % 256) as u8);
+        }
+        NUMBER => store(table, at, numbers[2]),
+        NINE => calls(table, &rows::NINE, true),
+        THREE => damaged(table, 3, 5, numbers),
+        FIFTEEN => damaged(table, 15, 1, numbers),
+        _ => {
+            let r = call(table, config, code, numbers[1], numbers[2], numbers[3]);
+            if shown || r.number == UNKNOWN {
+                reply(r);
+            }
+        }
+    }
+}
+
+// What is lent after a code.
+fn lent_after(lent: Lent, code: u64, numbers: [u64; 4]) -> Lent {
+    let mut next = lent;
+    match code {
+        LEND => {
+            next.len = numbers[1] as usize;
+        }
+        PAIRS => {
+            next.read = THE_PAIRS;
+            next.write = THE_PAIRS;
+            next.config_len = numbers[1] as usize;
+        }
+        SETS => {
+            next.read = numbers[1];
+            next.write = numbers[2];
+            next.config_len = 32;
+        }
+        _ => {}
+    }
+    next
+}
+
+// Does what a call says, once it is whole, on what is lent, and returns what is lent after it.
+pub fn perform(space: &mut [u8], lent: Lent, c: Call, whole: bool, shown: bool) -> Lent {
+    let code = code_of(c.word);
+    let len = lent.len;
+    let config_len = lent.config_len;
+    let numbers = c.numbers;
+    if !whole {
+        return lent;
+    }
+    if len <= space.len() {
+        if config_len <= 33 {
+            let bytes = config(lent.read, lent.write);
+            replies(
+                &mut space[..len],
+                &bytes[..config_len],
+                code,
+                numbers,
+                shown,
+            );
+            return lent_after(lent, code, numbers);
+        }
+    }
+    lent_after(lent, code, numbers)
+}
