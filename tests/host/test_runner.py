@@ -3,10 +3,13 @@
 usage: test_runner.py RUNNER
 """
 
+import os
 import pathlib
+import pty
 import select
 import subprocess
 import sys
+import tty
 import unittest
 
 RUNNER = ""
@@ -66,6 +69,27 @@ def replies(lines):
     return output.decode().splitlines()
 
 
+def failing_input(data):
+    """A descriptor that gives these bytes, and whose next read then fails with EIO.
+
+    It is a pseudo-terminal's master: its slave is in raw mode, writes the bytes and is closed.
+    """
+    master, slave = pty.openpty()
+    tty.setraw(slave)
+    os.write(slave, data)
+    os.close(slave)
+    return master
+
+
+def run_on(descriptor):
+    try:
+        result = subprocess.run([RUNNER], stdin=descriptor, capture_output=True, check=True,
+                                timeout=60)
+    finally:
+        os.close(descriptor)
+    return result.stdout
+
+
 class Runner(unittest.TestCase):
     def test_example(self):
         self.assertEqual(replies(EXAMPLE.read_text().splitlines()), EXAMPLE_REPLIES)
@@ -112,6 +136,23 @@ class Runner(unittest.TestCase):
                 self.assertEqual(process.stdout.read(1000) if ready else b"", expected)
             process.stdin.close()
             self.assertEqual(process.wait(timeout=10), 0)
+
+    def test_failing_input_fails(self):
+        master = failing_input(b"07\n07")
+        self.assertEqual(os.read(master, 1000), b"07\n07")
+        with self.assertRaises(OSError):
+            os.read(master, 1000)
+        os.close(master)
+
+    def test_a_failed_read_drops_the_line_so_far(self):
+        reply = refused("07", 1).encode() + b"\n"
+        self.assertEqual(run_on(failing_input(b"07\n07")), reply)
+        self.assertEqual(run_on(failing_input(b"07\n07\n")), 2 * reply)
+        self.assertEqual(run_on(failing_input(b"07")), b"")
+        self.assertEqual(run(b"07\n07"), 2 * reply)
+
+    def test_a_first_read_that_fails(self):
+        self.assertEqual(run_on(os.open("/", os.O_RDONLY)), b"")
 
     def test_closed_output_ends_the_runner(self):
         with subprocess.Popen([RUNNER], stdin=subprocess.PIPE, stdout=subprocess.PIPE) as process:

@@ -5,6 +5,7 @@ ghost use lib.ListN.{length};
 use feeding::Fed;
 use feeding::feed;
 use feeding::finish;
+ghost use Rattle.frame_runner.specs.Ending.{lineLeft};
 use libc::STDIN_FILENO;
 use libc::STDOUT_FILENO;
 
@@ -58,6 +59,15 @@ fn answer_piece(
     }
 }
 
+// The length of the line so far where a read gave no byte: at the end of input the line is the last one, and where the read failed it
+// may be a part of a longer one, and is dropped.
+fn line_left(got: isize, len: usize) -> usize
+    ensures { λ r. ⌜ r ≡ lineLeft got len ⌝ }
+    ensures { λ r. ⌜ r ≤ len ⌝ }
+{
+    if got < 0 { 0 } else { len }
+}
+
 // Reads once, and answers what came; at the end of input, or where it cannot be read, nothing more comes.
 fn answer_read(
     input: &mut [u8],
@@ -75,14 +85,15 @@ fn answer_read(
     if n == 0 {
         return Left {
             used,
-            len,
+            len: line_left(got, len),
             more: false,
         };
     }
     answer_piece(&input[..n], table, line, out, used, len)
 }
 
-// Answers the whole input, and at its end a last line without a line end. The count of reads is more than any input has.
+// Answers the whole input, and at its end a last line without a line end; a failed read or write leaves no such line. The count of
+// reads is more than any input has.
 fn answer_input(input: &mut [u8], table: &mut [u8], line: &mut [u8], out: &mut [u8])
     requires { ⌜ (length (now table) ≡ 28728) × (length (now line) ≡ 87) × (length (now out) ≡ 65536) ⌝ }
 {
