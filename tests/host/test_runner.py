@@ -82,8 +82,9 @@ def failing_input(data):
 
 
 def run_on(descriptor):
+    """What the runner prints; its exit status is its own affair where a read fails."""
     try:
-        result = subprocess.run([RUNNER], stdin=descriptor, capture_output=True, check=True,
+        result = subprocess.run([RUNNER], stdin=descriptor, capture_output=True, check=False,
                                 timeout=60)
     finally:
         os.close(descriptor)
