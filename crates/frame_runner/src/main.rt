@@ -2,10 +2,10 @@
 ghost use mathlib.Core.Path.{_≡_};
 ghost use Prim.Native.Nat.{_≤_};
 ghost use lib.ListN.{length};
+ghost use Rattle.frame_runner.specs.Ending.{lineLeft};
 use feeding::Fed;
 use feeding::feed;
 use feeding::finish;
-ghost use Rattle.frame_runner.specs.Ending.{lineLeft};
 use libc::STDIN_FILENO;
 use libc::STDOUT_FILENO;
 
