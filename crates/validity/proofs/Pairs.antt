@@ -304,4 +304,6 @@ module _ (n : ℕ) (c : List ℕ) where
     paired-is-valid =
         same-test _ _ (λ e. facts-valid n c (paired-valid e))
         (λ e. let v = valid-facts n c e in
-        shares-members (setAt c 0) (setAt c 8) .1 (v .meet 0 0 (omega arith) (omega arith) (first-used n (readSet c) (v .reads)) (first-used n (writeSet c) (v .writes))))
+        let r = first-used n (readSet c) (v .reads) in
+        let w = first-used n (writeSet c) (v .writes) in
+        shares-members (setAt c 0) (setAt c 8) .1 (v .meet 0 0 (omega arith) (omega arith) r w))

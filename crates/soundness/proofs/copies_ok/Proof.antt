@@ -36,7 +36,9 @@ block-ok-requires : tie.Need-block-ok-requires Inv-loop μ-loop
 block-ok-requires c κs = search needs
 
 returns-2 : tie.Need-returns-2 Inv-loop μ-loop
-returns-2 c = fails (λ h. clash (scan-less _ _ (c .before .before .before .loop .k + 8) _ (omega arith) h) (sym (c .before .block-ok .ensures) ∙ not-true _ (c .if2 .taken)))
+returns-2 c =
+    let k = c .before .before .before .loop .k in
+    fails (λ h. clash (scan-less _ _ (k + 8) _ (omega arith) h) (sym (c .before .block-ok .ensures) ∙ not-true _ (c .if2 .taken)))
 
 add-k-2 : tie.Need-add-k-2 Inv-loop μ-loop
 add-k-2 c = search needs

@@ -42,7 +42,8 @@ next-ok-requires c κs =
 
 returns : tie.Need-returns Inv-loop μ-loop
 returns c =
-    one-fails _ _ _ _ _ (c .before .before .before .loop .k) (c .before .before .loop-test .taken) (sym (c .before .next-ok .ensures) ∙ not-true _ (c .if1 .taken))
+    let test = c .before .before in
+    one-fails _ _ _ _ _ (test .before .loop .k) (test .loop-test .taken) (sym (c .before .next-ok .ensures) ∙ not-true _ (c .if1 .taken))
 
 add-k : tie.Need-add-k Inv-loop μ-loop
 add-k c = search needs
@@ -51,10 +52,9 @@ loop-less : tie.Need-loop-less Inv-loop μ-loop
 loop-less c = search needs
 
 loop-again : tie.Need-loop-again Inv-loop μ-loop
-loop-again c = (
-  search needs,
-  one-more _ _ _ _ (c .before .before .before .loop .k) (c .before .before .before .loop .inv .1) (sym (c .before .next-ok .ensures) ∙ not-false _ (c .if1 .left)),
-)
+loop-again c =
+    let turn = c .before .before .before .loop in
+    (search needs, one-more _ _ _ _ (turn .k) (turn .inv .1) (sym (c .before .next-ok .ensures) ∙ not-false _ (c .if1 .left)))
 
 returns-2 : tie.Need-returns-2 Inv-loop μ-loop
 returns-2 c =

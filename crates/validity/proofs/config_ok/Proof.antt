@@ -51,9 +51,11 @@ share-station-requires c κs = search needs
 
 returns-3 : tie.Need-returns-3
 returns-3 c = let tested = c .before .before .before in
-    let a = tested .before .before .before .before .before .before .before .before in
+    let first = tested .before .before .before .before .before in
+    let inside-it = sym (within-all (tested .before)) ∙ not-false _ (tested .if2 .left) in
+    let a = first .before .before .before in
     rw (c .share-station .ensures, c .before .load-set2 .ensures, c .before .before .load-set .ensures)
-    (paired-is-valid (a .args .n) (a .args .config .now) (a .pre .0) (a .pre .1) (a .pre .2) (paired (tested .before .before .before .before .before)) (sym (within-all (tested .before)) ∙ not-false _ (tested .if2 .left)))
+    (paired-is-valid (a .args .n) (a .args .config .now) (a .pre .0) (a .pre .1) (a .pre .2) (paired first) inside-it)
 
 pub config-ok-spec : {M : Type 1} → statement M
 config-ok-spec =

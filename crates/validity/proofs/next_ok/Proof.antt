@@ -26,7 +26,8 @@ returns c =
     let a = c .before .before .before .before .args in
     let h = known .0 in
     let e : a .at - a .stride + a .stride ≡ a .at = omega arith in
-    sym (rw e at (again-valid (a .n) (a .bytes .now) (a .at - a .stride) (a .stride) (omega arith) (sym (c .before .same-again .ensures) ∙ c .if2 .taken) (known .1)))
+    let same = sym (c .before .same-again .ensures) ∙ c .if2 .taken in
+    sym (rw e at (again-valid (a .n) (a .bytes .now) (a .at - a .stride) (a .stride) (omega arith) same (known .1)))
 
 add-config-ok : tie.Need-add-config-ok
 add-config-ok c = search needs

@@ -9,7 +9,8 @@ use Rattle.validity.proofs.pairs_ok.Statement.{statement}
 use Rattle.validity.proofs.pairs_ok.Tie as tie
 
 abbrev Inv-loop : tie.InvT-loop
-Inv-loop config reads writes ok₀ k₀ ok k = (k ≤ 8) × (ok ≡ allBelow (λ j. rowOk writes (getD reads (7 - j) 0)) k) × (reads ≡ filledSide config 0) × (writes ≡ filledSide config 8)
+Inv-loop config reads writes ok₀ k₀ ok k =
+    (k ≤ 8) × (ok ≡ allBelow (λ j. rowOk writes (getD reads (7 - j) 0)) k) × (reads ≡ filledSide config 0) × (writes ≡ filledSide config 8)
 
 abbrev μ-loop : tie.MeasureT-loop
 μ-loop config reads writes ok₀ k₀ ok k = 8 - k
@@ -42,7 +43,8 @@ loop-less : tie.Need-loop-less Inv-loop μ-loop
 loop-less c = search needs
 
 loop-again : tie.Need-loop-again Inv-loop μ-loop
-loop-again c = (search needs, all-turn _ _ (c .before .before .loop .inv .1) (c .row-ok .ensures), c .before .before .loop .inv .2, c .before .before .loop .inv .3)
+loop-again c =
+    let kept = c .before .before .loop .inv in (search needs, all-turn _ _ (kept .1) (c .row-ok .ensures), kept .2, kept .3)
 
 returns : tie.Need-returns Inv-loop μ-loop
 unfolding pairsOk
