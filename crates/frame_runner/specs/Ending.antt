@@ -2,7 +2,8 @@
 use Prim.Native.Nat.{ℕ}
 use lib.IntN.{ℤ, pos, negsuc}
 
--- By the answer of the last read: the end of input (0) leaves the line, which then counts; a read that fails (negative) drops it.
+-- By the answer of the last read, which is 0 at the end of input: the line is left, and then counts. Where a read fails (a negative
+-- answer), document 01 leaves free what becomes of the line: it is dropped, since it may have been cut in the middle of a frame.
 abbrev pub lineLeft : ℤ → ℕ → ℕ
 lineLeft (pos _) len = len
 lineLeft (negsuc _) len = 0

@@ -18,7 +18,7 @@ allDigits (c ∷ rest) = isDigit c && allDigits rest
 unfoldable pub valueOf : ℕ → ℕ
 valueOf c = cond (leb c 57) (c - 48) (c - 55)
 
--- as the code has it, with 255 for any other character
+-- the value of a digit, and 255 for any other character: what the code computes
 unfoldable pub valueOr : ℕ → ℕ
 valueOr c = cond (isDigit c) (valueOf c) 255
 

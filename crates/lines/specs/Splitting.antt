@@ -1,5 +1,5 @@
--- What the line splitter does with a piece of input. A reader of the claims needs `afterPiece` and `printedBy`, to which it
--- comes (`splits-ended`, `splits-over` in proofs/Stretches.antt).
+-- What the line splitter does with a piece of input. A reader of the claims needs `afterPiece` and `printedBy`; proofs/Stretches.antt
+-- has that the splitter does what they say (`splits-ended`, `splits-over`).
 use mathlib.Core.Bool.{Bool, false, cond, _||_}
 use mathlib.Core.List.{List, [], _∷_}
 use Prim.Native.Nat.{ℕ, _+_, _-_}
@@ -18,7 +18,7 @@ unfoldable pub hasEnd : List ℕ → Bool
 hasEnd [] = false
 hasEnd (byte ∷ rest) = eqb byte lineEnd || hasEnd rest
 
--- what of these bytes is kept behind a line so far of a length
+-- what is kept of these bytes, where so many bytes of the line are there already
 unfoldable pub kept : ℕ → List ℕ → List ℕ
 kept len bytes = take (enough - len) bytes
 

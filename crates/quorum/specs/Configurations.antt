@@ -61,7 +61,7 @@ validity n c =
 unfoldable pub valid : ℕ → List ℕ → Bool
 valid n c = all (validity n c)
 
--- the configuration in a list of bytes at a place; and the first of those that stand there a stride apart
+-- the 32 bytes at a place of a list are a valid configuration; so are the first ones of those that stand a stride apart, from a place on
 abbrev pub validAt : ℕ → List ℕ → ℕ → Bool
 validAt n bytes at = valid n (part bytes at 32)
 

@@ -1,5 +1,6 @@
 -- What the crate promises of its definitions of sets and configurations. The crates above rely on this record and on the
--- contracts alone for both. `Tests` and `Bytes` are vocabulary that they share with this crate, and use as it is defined.
+-- contracts alone for both. `Tests`, `Bytes` and `validTo` are vocabulary that they share with this crate, and use as it is defined.
+-- `validity`, the code of one of the tests, belongs to this layer and opens the definitions.
 use mathlib.Core.Path.{_≡_}
 use mathlib.Core.Bool.{true, false, not, _&&_, _||_}
 use mathlib.Core.List.{List}

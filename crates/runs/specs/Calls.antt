@@ -28,9 +28,9 @@ ShowsTheBook t b (line ∷ lines) =
     × ShowsTheBook (tableAfter t line) (bookAfter t b line) lines
 
 -- ---- the lists of demand 3 in a session. A lay frame is lent other bytes than the call before it left, so a session with several lays
--- is not one list; these are the stretches that are, and `ShowsTheBook` is the claim over the whole. A lay that replies 0 begins one, on the bytes that it is lent; the frames after it are
--- calls on the table as the call before left it, up to the next lay that replies 0. A refused lay is lent bytes of its own, keeps
--- the table, and stands in no list.
+-- is not one list; these are the stretches that are, and `ShowsTheBook` is the claim over the whole. A lay that replies 0 begins
+-- one, on the bytes that it is lent; the frames after it are calls on the table as the call before left it, up to the next lay that
+-- replies 0. A refused lay is lent bytes of its own, keeps the table, and stands in no list.
 -- the calls of these lines, lays left out
 abbrev pub callThen : Option Call → List Call → List Call
 callThen none calls = calls

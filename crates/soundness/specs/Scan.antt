@@ -13,11 +13,11 @@ use Rattle.layout.specs.Layout.{headSize, kindAt, spareAt, copySize, copyConfig
 use Rattle.layout.specs.Fields.{Kind, none, read, write, change, stations, items, offSet, roundOf}
 use Rattle.layout.specs.Soundness.{isZero, roundSound, soundness}
 
--- the length, n and m; then the rest of the head, but for what the round's kind asks of it:
+-- the length, n and m
 unfoldable pub sizeSound : List ℕ → Bool
 sizeSound t = all (take 5 (soundness t))
 
--- the four head sets are tested as one
+-- the rest of the head, but for what the round's kind asks of it; its four sets are tested as one
 unfoldable pub headSound : List ℕ → Bool
 headSound t =
     leb (number t kindAt 1) 3

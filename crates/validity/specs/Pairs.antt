@@ -9,8 +9,8 @@ use Rattle.quorum.specs.Tests.{allBelow}
 use Rattle.quorum.specs.Sets.{shares, within, full}
 use Rattle.quorum.specs.Configurations.{setAt}
 
--- A set as the pairs are tested, by the set of the next place. An unused place that no used one follows stands for all stations,
--- which share one with every used set; one that a used place follows stays empty and shares none, so that a gap is found.
+-- A set as the pairs are tested, by the set of the next place. An unused place stands for all stations, which share one with every
+-- used set; but one right before a used place stays empty and shares none, so that a gap is found.
 unfoldable pub filled : ℕ → ℕ → ℕ
 filled set next = cond (eqb (bitOr set next) 0) 65535 set
 
@@ -29,7 +29,8 @@ rowOk writes read = allBelow (λ k. shares read (getD writes k 0)) 8
 unfoldable pub pairsOk : List ℕ → Bool
 pairsOk c = allBelow (λ k. rowOk (filledSide c 8) (getD (filledSide c 0) (7 - k) 0)) 8
 
--- four sets as one number, which has room for them; the stations of 16 that n do not have, four times over; and the four sets' test
+-- four sets as one number; that each of them has 16 bits, as it must there; the set of stations n to 15, four times over; and what
+-- the test of that number is equal to
 abbrev pub four : List ℕ → ℕ → ℕ
 four c place =
     setAt c place + 65536 * setAt c (place + 1) + 4294967296 * setAt c (place + 2) + 281474976710656 * setAt c (place + 3)

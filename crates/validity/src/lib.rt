@@ -9,8 +9,8 @@ use quorum::all_stations;
 use quorum::load_set;
 use quorum::share_station;
 
-// A set as the pairs are tested: an unused place that no used one follows is filled with all stations, which share one with
-// every used set. One that a used place follows stays empty and shares none, so a gap fails the test of pairs.
+// A set as the pairs are tested: an unused place is filled with all stations, which share one with every used set. One right
+// before a used place stays empty and shares none, so a gap fails the test of pairs.
 fn filled(set: u16, next: u16) -> u16
     ensures { λ r. ⌜ r ≡ filled set next ⌝ }
 {
@@ -80,7 +80,7 @@ fn load_four(config: &[u8], place: usize) -> u64
         + 281474976710656 * (load_set(config, place + 3) as u64)
 }
 
-// The stations of 16 that n do not have, four times over.
+// Stations n to 15, four times over.
 fn outside(n: usize) -> u64
     ensures { λ r. ⌜ r ≡ outsideOf n ⌝ }
 {
