@@ -2,27 +2,27 @@
 // `stdin`, and `stdout` holds what document 01 says of each; it was written from the paper, and EXPECTED.md gives the sentence for
 // every case.
 //
-// In `stdin` a line that begins with # is a heading, and is printed. Any other line has calls with commas between them: a word and
-// its numbers. A line that begins with a space is set-up: its calls are made, and nothing is printed. Any other line is a case: its
-// name, up to the colon, is printed, and then the reply to each of its calls, a number and three figures.
+// A line of `stdin` has a text, which is printed, and behind a bar calls with commas between them: a word and its numbers. A line with
+// text and calls is a case: its name, and the reply to each of its calls, a number and three figures. A line without calls is a
+// heading, and a line without text is set-up, whose replies are not printed.
 //
 //     lay N M VALUE, read ITEM, write ITEM VALUE, change ITEM, poll STATION, put STATION SORT,
 //     commit, abandon, link STATION STATE, reach ITEM
 //
-// are the ten calls; lay and change are lent the configuration that was set last. These words say what is lent from then on, and have
-// no reply:
+// are the ten calls; lay and change are lent the configuration that was set last. These words say what is lent from then on, or store
+// in the table, and have no reply:
 //
 //     lend LENGTH         so many bytes of the one space, as the table
 //     pairs LENGTH        so many bytes of the pair sets 0003, 0005, 0006 on both sides, as the configuration
 //     sets READ WRITE     one read set and one write set, as the configuration
-//     byte AT VALUE       stores a byte in the table
-//     number AT VALUE     stores a number in eight bytes of the table
+//     byte AT VALUE       a byte
+//     number AT VALUE     a number of eight bytes, the least significant first
 //
-// And these have a row of replies (`rows.rt`):
+// And these have nine replies (`rows.rt`):
 //
 //     nine                       the nine calls but lay
-//     three ROUND AT VALUE       the nine calls, reach and lay on a table of n 3, m 5 that has a round and one byte changed
-//     fifteen ROUND AT VALUE     the same on a table of n 15, m 1
+//     three ROUND AT VALUE       lays a table of n 3, m 5 with a round, and makes the nine calls with one byte changed
+//     fifteen ROUND AT VALUE     the same of n 15, m 1
 //
 // Any other word gets the number 99, in a set-up too.
 mod call;

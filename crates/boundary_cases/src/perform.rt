@@ -42,8 +42,7 @@ fn replies(table: &mut [u8], config: &[u8], code: u64, numbers: [u64; 4], shown:
         }
         NUMBER => store(table, at, numbers[2]),
         NINE => calls(table, &rows::NINE, true),
-        THREE => damaged(table, 3, 5, numbers),
-        FIFTEEN => damaged(table, 15, 1, numbers),
+        THREE | FIFTEEN => damaged(table, config, code == THREE, numbers),
         _ => {
             let r = call(table, config, code, numbers[1], numbers[2], numbers[3]);
             if shown || r.number == UNKNOWN {

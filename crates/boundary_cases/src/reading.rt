@@ -51,16 +51,15 @@ fn with_digit(number: u64, digit: u64) -> u64 {
 }
 
 impl Call {
-    pub fn none() -> Call {
-        Call {
-            word: 0,
-            at: 0,
-            numbers: [0u64; 4],
+    // The call with one byte more, if that is read: a space ends the word or a number. Else no call.
+    pub fn after(self, read: bool, b: u8) -> Call {
+        if !read {
+            return Call {
+                word: 0,
+                at: 0,
+                numbers: [0u64; 4],
+            };
         }
-    }
-
-    // The call with one byte more: a space ends the word or a number.
-    pub fn with(self, b: u8) -> Call {
         let mut next = self;
         let at = self.at % 4;
         let numbers = self.numbers;

@@ -13,9 +13,6 @@ use crate::call::call;
 use crate::lent::replace;
 use crate::show::reply;
 
-// Set 0003 on both sides.
-const OLD: [u8; 32] = *b"\x03\0\0\0\0\0\0\0\0\0\0\0\0\0\0\0\x03\0\0\0\0\0\0\0\0\0\0\0\0\0\0\0";
-
 // Set 0004 on both sides, the target of every change here.
 const TARGET: [u8; 32] = *b"\x04\0\0\0\0\0\0\0\0\0\0\0\0\0\0\0\x04\0\0\0\0\0\0\0\0\0\0\0\0\0\0\0";
 
@@ -68,34 +65,23 @@ pub fn calls(table: &mut [u8], rows: &[u64], shown: bool) {
     }
 }
 
-// Lays a table of sets 0003 with a round of item 0 that has polled 0 and 1. A write and a change to 0004 have a data put at 2, and
-// the change a configuration put at 0; a round refuses the puts that it does not take.
-fn prepare(table: &mut [u8], n: u64, m: u64, kind: u64) {
-    call(table, &OLD, LAY, n, m, 500);
+// Lays a table of three stations and five items, or of fifteen stations and one item, and opens a round of item 0 that polls 0 and 1.
+// A write and a change to 0004 get a data put at 2, and the change a configuration put at 0; a round refuses the puts that it does not
+// take.
+fn prepare(table: &mut [u8], config: &[u8], three: bool, kind: u64) {
+    let n = if three { 3 } else { 15 };
+    let m = if three { 5 } else { 1 };
+    call(table, config, LAY, n, m, 500);
     call(table, &TARGET, OPENINGS[(kind % 4) as usize], 0, 510, 0);
     calls(table, &STEPS, false);
 }
 
-// The nine calls with one byte changed; then it is as it was.
-fn nine_damaged(table: &mut [u8], at: usize, byte: u8) {
-    let was = replace(table, at, byte);
+// The nine calls on such a table with one byte changed; then the byte is as it was. The numbers are the kind of the round, the place
+// of the byte, and what it becomes.
+pub fn damaged(table: &mut [u8], config: &[u8], three: bool, numbers: [u64; 4]) {
+    let at = numbers[2] as usize;
+    prepare(table, config, three, numbers[1]);
+    let was = replace(table, at, (numbers[3] % 256) as u8);
     calls(table, &NINE, true);
     replace(table, at, was);
-}
-
-// Reach, and lay with one byte changed.
-fn reach_and_lay(table: &mut [u8], n: u64, m: u64, at: usize, byte: u8) {
-    reply(call(table, &OLD, REACH, 0, 0, 0));
-    replace(table, at, byte);
-    reply(call(table, &OLD, LAY, n, m, 500));
-}
-
-// Such a table with one byte changed: the nine calls, reach with the byte as it was, and lay with it changed again. The numbers are
-// the kind of the round, the place of the byte, and what it becomes.
-pub fn damaged(table: &mut [u8], n: u64, m: u64, numbers: [u64; 4]) {
-    let at = numbers[2] as usize;
-    let byte = (numbers[3] % 256) as u8;
-    prepare(table, n, m, numbers[1]);
-    nine_damaged(table, at, byte);
-    reach_and_lay(table, n, m, at, byte);
 }

@@ -3,70 +3,8 @@ use crate::lent::Lent;
 use crate::perform::perform;
 use crate::reading::Call;
 
-// Where in a line a byte stands: at its start, in a heading, in a name, in the calls of a case or of a set-up.
-enum Place {
-    Start,
-    Heading,
-    Name,
-    Case,
-    SetUp,
-}
-
-impl Place {
-    // The place of the next byte.
-    fn after(self, b: u8) -> Place {
-        if b == b'\n' {
-            return Place::Start;
-        }
-        match self {
-            Place::Start => match b {
-                b'#' => Place::Heading,
-                b' ' => Place::SetUp,
-                _ => Place::Name,
-            },
-            Place::Name => { if b == b':' { Place::Case } else { Place::Name } }
-            _ => self,
-        }
-    }
-
-    // Whether the byte is printed: headings and names are, and the end of a case.
-    fn prints(self, b: u8) -> bool {
-        match self {
-            Place::Start => b != b' ' && b != b'\n',
-            Place::Heading | Place::Name => true,
-            Place::Case => b == b'\n',
-            Place::SetUp => false,
-        }
-    }
-
-    fn in_case(self) -> bool {
-        match self {
-            Place::Case => true,
-            _ => false,
-        }
-    }
-
-    // Whether the byte ends a call: a comma or a line's end in the calls.
-    fn ends_call(self, b: u8) -> bool {
-        match self {
-            Place::Case | Place::SetUp => b == b',' || b == b'\n',
-            _ => false,
-        }
-    }
-
-    // The call as it is read after the byte.
-    fn read(self, call: Call, b: u8) -> Call {
-        if self.ends_call(b) {
-            return Call::none();
-        }
-        match self {
-            Place::Case | Place::SetUp => call.with(b),
-            _ => call,
-        }
-    }
-}
-
-// Does what the script says, in the space.
+// Does what the script says, in the space. `calls` says that the byte stands behind the bar of its line, and `shown` that there is
+// text before it.
 pub fn run(script: &[u8], space: &mut [u8]) {
     let mut lent = Lent {
         len: 0,
@@ -74,18 +12,27 @@ pub fn run(script: &[u8], space: &mut [u8]) {
         read: 0,
         write: 0,
     };
-    let mut place = Place::Start;
-    let mut call = Call::none();
+    let mut call = Call {
+        word: 0,
+        at: 0,
+        numbers: [0u64; 4],
+    };
+    let mut calls = false;
+    let mut shown = false;
     let mut i = 0;
     while i < script.len() {
         let b = script[i];
-        lent = perform(space, lent, call, place.ends_call(b), place.in_case());
-        if place.prints(b) {
+        let bar = b == b'|';
+        let line_end = b == b'\n';
+        let call_end = line_end | (b == b',');
+        lent = perform(space, lent, call, calls & call_end, shown);
+        if (shown & line_end) | !(calls | bar | line_end) {
             let printed = [b];
             io::write_all(1, &printed);
         }
-        call = place.read(call, b);
-        place = place.after(b);
+        call = call.after(calls & !call_end, b);
+        shown = !line_end & (shown | !(calls | bar));
+        calls = !line_end & (calls | bar);
         i += 1;
     }
 }

@@ -6,13 +6,10 @@ use Rattle.boundary_cases.proofs.script.run.Statement.{statement}
 use Rattle.boundary_cases.proofs.script.run.Tie as tie
 
 abbrev Inv-loop : tie.InvT-loop
-Inv-loop script space₀ lent₀ place₀ call₀ i₀ space lent place call i = (length space ≡ length space₀) × (i ≤ length script)
+Inv-loop script space₀ lent₀ call₀ calls₀ shown₀ i₀ space lent call calls shown i = (length space ≡ length space₀) × (i ≤ length script)
 
 abbrev μ-loop : tie.MeasureT-loop
-μ-loop script space₀ lent₀ place₀ call₀ i₀ space lent place call i = length script - i
-
-none-requires : tie.Need-none-requires Inv-loop μ-loop
-none-requires c κs = search needs
+μ-loop script space₀ lent₀ call₀ calls₀ shown₀ i₀ space lent call calls shown i = length script - i
 
 loop-holds : tie.Need-loop-holds Inv-loop μ-loop
 loop-holds c = search needs
@@ -20,26 +17,14 @@ loop-holds c = search needs
 shared-slice-read-b : tie.Need-shared-slice-read-b Inv-loop μ-loop
 shared-slice-read-b c = search needs
 
-ends-call-requires : tie.Need-ends-call-requires Inv-loop μ-loop
-ends-call-requires c κs = search needs
-
-in-case-requires : tie.Need-in-case-requires Inv-loop μ-loop
-in-case-requires c κs = search needs
-
 perform-requires : tie.Need-perform-requires Inv-loop μ-loop
 perform-requires c κs = search needs
-
-prints-requires : tie.Need-prints-requires Inv-loop μ-loop
-prints-requires c κs = search needs
 
 slice-aggregate-write-all : tie.Need-slice-aggregate-write-all Inv-loop μ-loop
 slice-aggregate-write-all c = search needs
 
 write-all-requires : tie.Need-write-all-requires Inv-loop μ-loop
 write-all-requires c κs = search needs
-
-read-requires : tie.Need-read-requires Inv-loop μ-loop
-read-requires c κs = search needs
 
 after-requires : tie.Need-after-requires Inv-loop μ-loop
 after-requires c κs = search needs
@@ -65,16 +50,11 @@ run-spec =
     (tie.spec
     Inv-loop
     μ-loop
-    none-requires
     loop-holds
     shared-slice-read-b
-    ends-call-requires
-    in-case-requires
     perform-requires
-    prints-requires
     slice-aggregate-write-all
     write-all-requires
-    read-requires
     after-requires
     add-i
     loop-less
