@@ -18,7 +18,8 @@ LIB ?=
 LDLIBS ?=
 CALLS ?= 200000
 LINES ?= 100000
-SAMPLES ?= 2001
+SAMPLES ?= 401
+RUNS := 1 2 3 4 5 6 7 8 9
 SEED ?= 1
 
 # What is linked with the library and without it stands apart.
@@ -153,7 +154,8 @@ soak: LINES = 10000000
 soak: test-calls test-frames
 
 bench: build
-	$(PLAIN)/bench --samples $(SAMPLES) > $(OUT)/bench.md
+	for run in $(RUNS); do $(PLAIN)/bench --samples $(SAMPLES) > $(OUT)/bench.$$run || exit 1; done
+	python3 bench/best.py $(RUNS:%=$(OUT)/bench.%) > $(OUT)/bench.md
 	$(PLAIN)/bench --growth --samples $(SAMPLES) > $(OUT)/growth.csv
 	python3 bench/plot.py < $(OUT)/growth.csv > $(OUT)/growth.svg
 	$(PLAIN)/random_frames --clean --stations 3 --items 1 --lines 5000000 > $(OUT)/small.hex
