@@ -35,14 +35,9 @@ pub const REACH: u64 = 10;
 // The number for any other code.
 pub const UNKNOWN: u64 = 99;
 
-// The call of a code.
-pub fn call(table: &mut [u8], config: &[u8], code: u64, a: u64, b: u64, c: u64) -> Reply {
+// The calls of the last five codes.
+fn later(table: &mut [u8], code: u64, a: u64, b: u64) -> Reply {
     match code {
-        LAY => ospreyscreen_lay(table, a, b, c, config),
-        READ => ospreyscreen_open_read(table, a),
-        WRITE => ospreyscreen_open_write(table, a, b),
-        CHANGE => ospreyscreen_open_change(table, a, config),
-        POLL => ospreyscreen_poll(table, a),
         PUT => ospreyscreen_put(table, a, b),
         COMMIT => ospreyscreen_commit(table),
         ABANDON => ospreyscreen_abandon(table),
@@ -54,5 +49,17 @@ pub fn call(table: &mut [u8], config: &[u8], code: u64, a: u64, b: u64, c: u64) 
             second: 0,
             third: 0,
         },
+    }
+}
+
+// The call of a code.
+pub fn call(table: &mut [u8], config: &[u8], code: u64, a: u64, b: u64, c: u64) -> Reply {
+    match code {
+        LAY => ospreyscreen_lay(table, a, b, c, config),
+        READ => ospreyscreen_open_read(table, a),
+        WRITE => ospreyscreen_open_write(table, a, b),
+        CHANGE => ospreyscreen_open_change(table, a, config),
+        POLL => ospreyscreen_poll(table, a),
+        _ => later(table, code, a, b),
     }
 }

@@ -12,17 +12,19 @@ pub struct Lent {
 }
 
 // Stores a byte, and returns the one that was there; nothing is done past the end.
-pub fn replace(table: &mut [u8], at: usize, byte: u8) -> u8 {
+pub fn replace(table: &mut [u8], at: u64, byte: u64) -> u8 {
+    let at = at as usize;
     if table.len() <= at {
         return 0;
     }
     let was = table[at];
-    table[at] = byte;
+    table[at] = (byte % 256) as u8;
     was
 }
 
 // Stores a number in eight bytes, the least significant first; nothing is done if they go past the end.
-pub fn store(table: &mut [u8], at: usize, number: u64) {
+pub fn store(table: &mut [u8], at: u64, number: u64) {
+    let at = at as usize;
     if table.len() < 8 {
         return;
     }

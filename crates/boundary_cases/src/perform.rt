@@ -7,9 +7,8 @@ use crate::lent::replace;
 use crate::lent::store;
 use crate::reading::Call;
 use crate::reading::code_of;
-use crate::rows;
-use crate::rows::calls;
 use crate::rows::damaged;
+use crate::rows::nine;
 use crate::show::reply;
 
 // The codes of the other words.
@@ -32,23 +31,25 @@ const FIFTEEN: u64 = 18;
 // The pair sets: 0003, 0005, 0006.
 const THE_PAIRS: u64 = 0x0006_0005_0003;
 
+// One of the ten calls; the reply is printed if it is to be shown, or if there is no such call.
+fn call_shown(table: &mut [u8], config: &[u8], code: u64, a: u64, b: u64, c: u64, shown: bool) {
+    let r = call(table, config, code, a, b, c);
+    if shown || r.number == UNKNOWN {
+        reply(r);
+    }
+}
+
 // What a code does to the table.
-fn replies(table: &mut [u8], config: &[u8], code: u64, numbers: [u64; 4], shown: bool) {
-    let at = numbers[1] as usize;
+fn act(table: &mut [u8], config: &[u8], code: u64, a: u64, b: u64, c: u64, shown: bool) {
     match code {
         LEND | PAIRS | SETS => {}
         BYTE => {
-            replace(table, at, (numbers[2] % 256) as u8);
+            replace(table, a, b);
         }
-        NUMBER => store(table, at, numbers[2]),
-        NINE => calls(table, &rows::NINE, true),
-        THREE | FIFTEEN => damaged(table, config, code == THREE, numbers),
-        _ => {
-            let r = call(table, config, code, numbers[1], numbers[2], numbers[3]);
-            if shown || r.number == UNKNOWN {
-                reply(r);
-            }
-        }
+        NUMBER => store(table, a, b),
+        NINE => nine(table),
+        THREE | FIFTEEN => damaged(table, config, code == THREE, a, b, c),
+        _ => call_shown(table, config, code, a, b, c, shown),
     }
 }
 
@@ -86,11 +87,13 @@ pub fn perform(space: &mut [u8], lent: Lent, c: Call, whole: bool, shown: bool) 
     if len <= space.len() {
         if config_len <= 33 {
             let bytes = config(lent.read, lent.write);
-            replies(
+            act(
                 &mut space[..len],
                 &bytes[..config_len],
                 code,
-                numbers,
+                numbers[1],
+                numbers[2],
+                numbers[3],
                 shown,
             );
             return lent_after(lent, code, numbers);

@@ -17,7 +17,7 @@ use crate::show::reply;
 const TARGET: [u8; 32] = *b"\x04\0\0\0\0\0\0\0\0\0\0\0\0\0\0\0\x04\0\0\0\0\0\0\0\0\0\0\0\0\0\0\0";
 
 // The nine calls but lay, each on item 0 or station 2.
-pub const NINE: [u64; 27] = [
+const NINE: [u64; 27] = [
     READ,
     0,
     0,
@@ -47,14 +47,11 @@ pub const NINE: [u64; 27] = [
     0,
 ];
 
-// The opening of a round of item 0, by its kind: 0 none, 1 read, 2 write, 3 change.
-const OPENINGS: [u64; 4] = [ABANDON, READ, WRITE, CHANGE];
-
 // The polls and puts of an open round.
 const STEPS: [u64; 12] = [POLL, 0, 0, POLL, 1, 0, PUT, 2, 1, PUT, 0, 2];
 
 // Calls of three numbers each, a word and two arguments, on the table.
-pub fn calls(table: &mut [u8], rows: &[u64], shown: bool) {
+fn calls(table: &mut [u8], rows: &[u64], shown: bool) {
     let mut at = 0;
     while rows.len() - at > 2 {
         let r = call(table, &TARGET, rows[at], rows[at + 1], rows[at + 2], 0);
@@ -65,23 +62,41 @@ pub fn calls(table: &mut [u8], rows: &[u64], shown: bool) {
     }
 }
 
-// Lays a table of three stations and five items, or of fifteen stations and one item, and opens a round of item 0 that polls 0 and 1.
-// A write and a change to 0004 get a data put at 2, and the change a configuration put at 0; a round refuses the puts that it does not
-// take.
+pub fn nine(table: &mut [u8]) {
+    calls(table, &NINE, true);
+}
+
+// The call that opens a round of a kind, 1 read, 2 write or 3 change; for 0 one that is refused.
+fn opening(kind: u64) -> u64 {
+    match kind {
+        1 => READ,
+        2 => WRITE,
+        3 => CHANGE,
+        _ => ABANDON,
+    }
+}
+
+// Lays a table of three stations and five items, or of fifteen stations and one item.
+fn lay(table: &mut [u8], config: &[u8], three: bool) {
+    if three {
+        call(table, config, LAY, 3, 5, 500);
+    } else {
+        call(table, config, LAY, 15, 1, 500);
+    }
+}
+
+// Such a table with a round of item 0 that has polled 0 and 1. A write and a change to 0004 have a data put at 2, and the change a
+// configuration put at 0; a round refuses the puts that it does not take.
 fn prepare(table: &mut [u8], config: &[u8], three: bool, kind: u64) {
-    let n = if three { 3 } else { 15 };
-    let m = if three { 5 } else { 1 };
-    call(table, config, LAY, n, m, 500);
-    call(table, &TARGET, OPENINGS[(kind % 4) as usize], 0, 510, 0);
+    lay(table, config, three);
+    call(table, &TARGET, opening(kind), 0, 510, 0);
     calls(table, &STEPS, false);
 }
 
-// The nine calls on such a table with one byte changed; then the byte is as it was. The numbers are the kind of the round, the place
-// of the byte, and what it becomes.
-pub fn damaged(table: &mut [u8], config: &[u8], three: bool, numbers: [u64; 4]) {
-    let at = numbers[2] as usize;
-    prepare(table, config, three, numbers[1]);
-    let was = replace(table, at, (numbers[3] % 256) as u8);
-    calls(table, &NINE, true);
-    replace(table, at, was);
+// The nine calls on such a table with one byte changed; then the byte is as it was.
+pub fn damaged(table: &mut [u8], config: &[u8], three: bool, kind: u64, at: u64, byte: u64) {
+    prepare(table, config, three, kind);
+    let was = replace(table, at, byte);
+    nine(table);
+    replace(table, at, was as u64);
 }

@@ -6,10 +6,10 @@ use Rattle.boundary_cases.proofs.lent.store.Statement.{statement}
 use Rattle.boundary_cases.proofs.lent.store.Tie as tie
 
 abbrev Inv-loop : tie.InvT-loop
-Inv-loop table₀ at number rest₀ i₀ table rest i = (length table ≡ length table₀) × (i ≤ 8)
+Inv-loop table₀ at number at1 rest₀ i₀ table rest i = (length table ≡ length table₀) × (i ≤ 8)
 
 abbrev μ-loop : tie.MeasureT-loop
-μ-loop table₀ at number rest₀ i₀ table rest i = 8 - i
+μ-loop table₀ at number at1 rest₀ i₀ table rest i = 8 - i
 
 returns : tie.Need-returns Inv-loop μ-loop
 returns c = search needs

@@ -13,20 +13,29 @@ returns c = search needs
 config-requires : tie.Need-config-requires
 config-requires c κs = search needs
 
-slice-relend-prefix-replies : tie.Need-slice-relend-prefix-replies
-slice-relend-prefix-replies c = search needs
+slice-relend-prefix-act : tie.Need-slice-relend-prefix-act
+slice-relend-prefix-act c = search needs
 
-slice-aggregate-replies : tie.Need-slice-aggregate-replies
-slice-aggregate-replies c = simp length-take (omega arith)
+slice-aggregate-act : tie.Need-slice-aggregate-act
+slice-aggregate-act c = simp length-take (omega arith)
 
 array-share-prefix-bytes : tie.Need-array-share-prefix-bytes
 array-share-prefix-bytes c = search needs
 
-slice-aggregate-replies-2 : tie.Need-slice-aggregate-replies-2
-slice-aggregate-replies-2 c = simp length-take (omega arith)
+slice-aggregate-act-2 : tie.Need-slice-aggregate-act-2
+slice-aggregate-act-2 c = simp length-take (omega arith)
 
-replies-requires : tie.Need-replies-requires
-replies-requires c κs = search needs
+array-read-act : tie.Need-array-read-act
+array-read-act c = search needs
+
+array-read-act-2 : tie.Need-array-read-act-2
+array-read-act-2 c = search needs
+
+array-read-act-3 : tie.Need-array-read-act-3
+array-read-act-3 c = search needs
+
+act-requires : tie.Need-act-requires
+act-requires c κs = search needs
 
 lent-after-requires : tie.Need-lent-after-requires
 lent-after-requires c κs = search needs
@@ -50,11 +59,14 @@ perform-spec =
     code-of-requires
     returns
     config-requires
-    slice-relend-prefix-replies
-    slice-aggregate-replies
+    slice-relend-prefix-act
+    slice-aggregate-act
     array-share-prefix-bytes
-    slice-aggregate-replies-2
-    replies-requires
+    slice-aggregate-act-2
+    array-read-act
+    array-read-act-2
+    array-read-act-3
+    act-requires
     lent-after-requires
     same-length
     returns-2
