@@ -12,12 +12,20 @@ pub enum Place {
     Nowhere,
 }
 
+// Whether a station below 16 is in the set.
+pub fn has_station(set: u16, station: usize) -> bool
+    requires { ⌜ station < 16 ⌝ }
+    ensures { λ r. ⌜ r ≡ member set station ⌝ }
+{
+    (set >> station) % 2 == 1
+}
+
 // Whether the station is in the set.
 pub fn is_member(set: u16, station: usize) -> bool
     ensures { λ r. ⌜ r ≡ member set station ⌝ }
 {
     if station < 16 {
-        (set >> station) % 2 == 1
+        has_station(set, station)
     } else {
         false
     }

@@ -90,3 +90,8 @@ module _ (key : ℕ → ℕ) (set : ℕ) where
 
   pub search-end : {m n k : ℕ} {o : Option ℕ} → n ≡ m → k ≤ n → n ≤ k → o ≡ newest key set k → o ≡ newest key set m
   search-end e l g inv = inv ∙ ap (newest key set) (le-antisymm l g ∙ e)
+
+-- a station of a sound table is one of 16
+pub station-below : (t : List ℕ) → sound t ≡ true → {n s : ℕ} → n ≡ stations t → s < n → s < 16
+unfolding view
+station-below t h e l = let f = sound-facts t h .state .small in omega arith

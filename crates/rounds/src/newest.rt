@@ -60,7 +60,7 @@ pub fn newest_version(t: &[u8], item: usize, set: u16) -> Found
     let n = stations(t);
     let mut best = Found::Nobody;
     for s in 0..n {
-        if quorum::is_member(set, s) {
+        if quorum::has_station(set, s) {
             best = newer_version(t, item, best, s);
         }
     }
@@ -75,7 +75,7 @@ pub fn newest_generation(t: &[u8], item: usize, set: u16) -> Found
     let n = stations(t);
     let mut best = Found::Nobody;
     for s in 0..n {
-        if quorum::is_member(set, s) {
+        if quorum::has_station(set, s) {
             best = newer_generation(t, item, best, s);
         }
     }

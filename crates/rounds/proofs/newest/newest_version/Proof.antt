@@ -6,7 +6,7 @@ use Prim.Native.Nat.{_≤_, _-_}
 use Rattle.layout.specs.Fields.{copyOf}
 use Rattle.rules.specs.Newest.{newest}
 use Rattle.rounds.specs.Found.{asOption}
-use Rattle.rounds.proofs.Search.{search-start, search-asks, search-member, search-other, search-end}
+use Rattle.rounds.proofs.Search.{search-start, search-asks, station-below, search-member, search-other, search-end}
 use Rattle.rounds.proofs.newest.newest_version.Statement.{statement}
 use Rattle.rounds.proofs.newest.newest_version.Tie as tie
 
@@ -22,8 +22,10 @@ stations-requires c κs = sound-head _ (c .before .pre .0)
 loop-holds : tie.Need-loop-holds Inv-loop μ-loop
 loop-holds c = (search needs, search-start _ _)
 
-is-member-requires : tie.Need-is-member-requires Inv-loop μ-loop
-is-member-requires c κs = search needs
+has-station-requires : tie.Need-has-station-requires Inv-loop μ-loop
+has-station-requires c κs =
+    let counted = c .before .before in
+    station-below _ (counted .before .before .pre .0) (counted .stations .ensures) (c .loop-test .taken)
 
 newer-version-requires : tie.Need-newer-version-requires Inv-loop μ-loop
 newer-version-requires c κs =
@@ -39,7 +41,7 @@ loop-less c = search needs
 loop-again : tie.Need-loop-again Inv-loop μ-loop
 loop-again c =
     let i = c .before .before .before .loop .inv .1 in
-    let m = c .before .is-member .ensures in (
+    let m = c .before .has-station .ensures in (
       search needs,
       ⊎-elim (λ w. ap asOption (w .2) ∙ w .1 .ensures ∙ search-member _ _ _ i m (w .0 .taken))
           (λ w. ap asOption (w .1) ∙ search-other _ _ _ i m (w .0 .left)) (c .if1 .came),
@@ -56,7 +58,7 @@ newest-version-spec =
     μ-loop
     stations-requires
     loop-holds
-    is-member-requires
+    has-station-requires
     newer-version-requires
     add-s
     loop-less
