@@ -107,6 +107,22 @@ static inline uint64_t gaps(side read_used, side write_used)
     return (~both.low & (next | 0xC000)) | (~both.high & both.high >> 16);
 }
 
+/* The eight sets of a side, from its first byte on. */
+static inline lanes get_side(const uint8_t *at)
+{
+    lanes s;
+    memcpy(&s, at, sizeof s);
+    return s;
+}
+
+/* Not zero if a lane is not zero. */
+static inline uint64_t any(lanes s)
+{
+    uint64_t halves[2];
+    memcpy(halves, &s, sizeof halves);
+    return halves[0] | halves[1];
+}
+
 /* All stations in each unused place, so that it shares one with every set. */
 static inline lanes fill(lanes s)
 {
@@ -132,9 +148,7 @@ static inline bool valid(configuration c, uint64_t n)
     for (int i = 0; i < 8; i++) {
         apart |= (lanes)((write & read[i]) == 0);
     }
-    uint64_t halves[2];
-    memcpy(halves, &apart, sizeof halves);
-    return (halves[0] | halves[1]) == 0;
+    return any(apart) == 0;
 }
 
 /* Whether the stations hold a used set of the side. */
@@ -167,18 +181,17 @@ static inline bool copies_valid(const uint8_t *at, size_t count, configuration *
     return true;
 }
 
-/* Not zero if some copy of the block has another configuration. Each word
- * has a sum of its own, which lets the compiler take two words at once. */
-static inline uint64_t block_difference(const uint8_t *at, configuration last)
+/* Not zero if some copy of the block has another configuration. */
+static inline uint64_t block_difference(const uint8_t *at, const uint8_t *last)
 {
-    configuration sum = {{0, 0}, {0, 0}};
+    lanes last_read = get_side(last);
+    lanes last_write = get_side(last + 16);
+    lanes sum = {0};
     for (int i = 0; i < BLOCK; i++, at += COPY) {
-        sum.read.low |= get_word(at + CONFIGURATION) ^ last.read.low;
-        sum.read.high |= get_word(at + CONFIGURATION + 8) ^ last.read.high;
-        sum.write.low |= get_word(at + CONFIGURATION + 16) ^ last.write.low;
-        sum.write.high |= get_word(at + CONFIGURATION + 24) ^ last.write.high;
+        sum |= get_side(at + CONFIGURATION) ^ last_read;
+        sum |= get_side(at + CONFIGURATION + 16) ^ last_write;
     }
-    return sum.read.low | sum.read.high | sum.write.low | sum.write.high;
+    return any(sum);
 }
 
 static bool all_copies_valid(const uint8_t *at, size_t count, uint64_t n)
@@ -190,7 +203,7 @@ static bool all_copies_valid(const uint8_t *at, size_t count, uint64_t n)
     at += COPY;
     count -= 1;
     for (; count >= BLOCK; count -= BLOCK, at += COPY * BLOCK) {
-        if (block_difference(at, last) != 0 && !copies_valid(at, BLOCK, &last, n)) {
+        if (block_difference(at, at - COPY + CONFIGURATION) != 0 && !copies_valid(at, BLOCK, &last, n)) {
             return false;
         }
     }
