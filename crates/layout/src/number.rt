@@ -26,7 +26,7 @@ pub fn u16_at(t: &[u8], at: usize) -> u16
     t[at] as u16 + 256 * (t[at + 1] as u16)
 }
 
-fn u32_at(t: &[u8], at: usize) -> u32
+pub fn u32_at(t: &[u8], at: usize) -> u32
     requires { ⌜ at + 4 ≤ length (now t) ⌝ }
     ensures { λ r. ⌜ r ≡ number (now (t .entry)) at 4 ⌝ }
 {

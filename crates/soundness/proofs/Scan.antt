@@ -1,31 +1,30 @@
--- What the code's tests of soundness come to: bytes that are zero, configurations with the same bytes, the scan over the
--- copies, and the list of tests in parts.
+-- What the code's tests of soundness come to: bytes that are zero, the configurations in a row, and the list of tests in parts.
 use mathlib.Core.Path.{_≡_, refl, sym, ap, _∙_}
-use mathlib.Core.Bool.{Bool, true, false, not, _&&_, and-true, and-assoc}
+use mathlib.Core.Bool.{Bool, true, false, not, _&&_, and-true, and-assoc, and-comm}
 use mathlib.Core.List.{List, [], _∷_}
-use Prim.Native.Nat.{ℕ, zero, suc, _+_, _-_, _*_, _≤_, _<_, suc-le-suc}
+use Prim.Native.Nat.{ℕ, zero, suc, _+_, _-_, _*_, _≤_, _<_}
 use native.Mathlib.Omega.{arith}
-use native.Mathlib.Nat.{add-assoc, add-zero, add-suc, mul-comm, suc-mul, zero-mul, mul-le-mul, le-of-suc-le-suc, le-antisymm, le-refl}
-use native.Mathlib.Numerals.{add-one}
+use native.Mathlib.Nat.{add-assoc, add-zero, add-suc, mul-comm, suc-mul, zero-mul, mul-le-mul, le-of-suc-le-suc}
 use lib.ListN.{length, getD, take, drop}
-use lib.Seq.{ext-getD, getD-take, getD-drop}
 use lib.Dec.{ltb, leb, eqb}
 use borrow.Author.Tests.{eq-eqb, eqb-true, leb-true}
 use Rattle.quorum.specs.Tests.{all, allBelow}
 use Rattle.quorum.specs.Bytes.{number}
 use Rattle.quorum.specs.Sets.{shares, within, unite}
 use Rattle.quorum.specs.Configurations.{valid, validAt, validTo}
-use Rattle.quorum.proofs.Tests.{clash, by-cases, same-test, and-left, and-right, and-both, all-true, all-below, below-all, all-same}
+use Rattle.quorum.proofs.Tests.{by-cases, same-test, and-left, and-right, and-both, all-true, all-same}
 use Rattle.quorum.proofs.Bytes.{number-none, number-suc}
-use Rattle.validity.proofs.Same.{same-part}
 use Rattle.quorum.proofs.Promise.{promise}
-use Rattle.layout.specs.Layout.{kindAt, spareAt, copyConfigAt, copySize, configSize, address, tableLength}
+use Rattle.layout.specs.Layout.{kindAt, itemAt, spareAt, targetAt, copyConfigAt, copySize, address, tableLength}
 use Rattle.layout.specs.Fields.{Kind, none, read, write, change, kindOf, stations, items, offSet, roundOf, copyFrom}
 use Rattle.layout.specs.Soundness.{isZero, roundSound, copiesValid, soundness, sound}
-use Rattle.soundness.specs.Scan.{sizeSound, headSound, roundBlank, targetSound, configAt, copiesTo, sameByte, sameLane, sameBlock}
+use Rattle.soundness.specs.Scan.{sizeSound, headSound, roundBlank, targetSound, configsFrom, restSound}
 use Rattle.layout.proofs.Numbers.{number-one}
 
--- ---- the numbers below a sum
+-- ---- two tests, and the numbers below a sum
+and-same : {a b c d : Bool} → a ≡ b → c ≡ d → (a && c) ≡ (b && d)
+and-same p q = cc
+
 all-add : (p : ℕ → Bool) (a b : ℕ) → allBelow p (a + b) ≡ (allBelow p a && allBelow (λ j. p (a + j)) b)
 unfolding allBelow
 all-add p a zero = rw (add-zero a) (sym (and-true _))
@@ -64,24 +63,10 @@ words-zero t at k =
     ap (isZero t at) e ∙ sym (bytes-zero t at (8 * k + 8)) ∙ all-add (λ j. eqb (getD t (at + j) 0) 0) (8 * k) 8
     ∙ and-same (bytes-zero t at (8 * k))
     (all-same _ _ 8 (λ j _. ap (λ i. eqb (getD t i 0) 0) (sym (add-assoc at (8 * k) j))) ∙ bytes-zero t (at + 8 * k) 8)
-  where
-    and-same : {a b c d : Bool} → a ≡ b → c ≡ d → (a && c) ≡ (b && d)
-    and-same p q = cc
 
--- ---- configurations with the same bytes
-block-valid : (t : List ℕ) (n at : ℕ) → at + copySize * 8 + configSize ≤ length t → sameBlock t at ≡ true → validAt n t at ≡ true
-    → (j : ℕ) → j < 8 → validAt n t (at + copySize + copySize * j) ≡ true
-unfolding sameBlock sameLane
-block-valid t n at h e v j l =
-    let f : at + copySize + copySize * j + configSize ≤ length t = omega arith in
-    let g : at + configSize ≤ length t = omega arith in
-    rw (same-part t (at + copySize + copySize * j) at configSize f g byte) v
-  where
-    byte : (k : ℕ) → k < configSize → getD t (at + copySize + copySize * j + k) 0 ≡ getD t (at + k) 0
-    byte k m =
-        let q : at + copySize + copySize * j + k ≡ at + k + copySize + copySize * j = omega arith in
-        let lane = all-below (λ k. sameLane t (at + k)) configSize e k m in
-        rw q (eqb-true _ _ (all-below (λ j. sameByte t (at + k + copySize + copySize * j) (at + k)) 8 lane j l))
+-- the first word of a round's part, where its first byte, the kind, is zero
+pub kind-word : (t : List ℕ) → number t kindAt 1 ≡ 0 → isZero t kindAt (8 * 1) ≡ isZero t itemAt 7
+kind-word t e = rw (first-zero t kindAt 7, ← number-one t kindAt, e)
 
 -- ---- tests
 -- one that cannot pass fails
@@ -110,37 +95,35 @@ all-split zero l = refl
 all-split (suc k) [] = refl
 all-split (suc k) (b ∷ l) = ap (λ r. b && r) (all-split k l) ∙ sym (and-assoc b (all (take k l)) (all (drop k l)))
 
--- ---- the scan
-module _ (t : List ℕ) (n : ℕ) where
-  -- where the copies before one are valid, each of them is, and those before each are
-  pub scan-at : (k j : ℕ) → j < k → copiesTo t n k ≡ true → validAt n t (configAt j) ≡ true
-  unfolding validTo
-  scan-at k j l h = all-below _ k h j l
-
-  pub scan-less : (j k : ℕ) → j ≤ k → copiesTo t n k ≡ true → copiesTo t n j ≡ true
-  unfolding validTo
-  scan-less j k l h = below-all _ j (λ i m. all-below _ k h i (omega arith))
-
-  -- eight copies that are the same as the one before them
-  pub scan-block : (k : ℕ) → 1 ≤ k → configAt k + copySize * 7 + configSize ≤ length t
-      → sameBlock t (configAt (k - 1)) ≡ true → copiesTo t n k ≡ true → copiesTo t n (k + 8) ≡ true
-  unfolding validTo
-  scan-block k p l e h =
-      rw (all-add (λ j. validAt n t (configAt j)) k 8, h) (below-all (λ j. validAt n t (configAt (k + j))) 8 (λ j m.
-      let f : configAt (k + j) ≡ configAt (k - 1) + copySize + copySize * j = omega arith in
-      rw f (block-valid t n (configAt (k - 1)) (omega arith) e (scan-at k (k - 1) (omega arith) h) j m)))
-
--- the copies by item and station are the copies one after the other
-pub scan-copies : (t : List ℕ) → 1 ≤ stations t * items t → copiesTo t (stations t) (stations t * items t - 1 + 1) ≡ copiesValid t
+-- ---- the configurations in a row
+-- those of the copies, by item and station
+copies-in-row : (t : List ℕ) → configsFrom t 1 ≡ copiesValid t
 unfolding copiesValid validTo copyFrom address
-scan-copies t h =
+copies-in-row t =
     let n = stations t in
     let m = items t in
-    let e : n * m - 1 + 1 ≡ m * n = omega (arith, mul-comm n m) in
-    rw (e, ← all-pairs (λ k. validAt n t (configAt k)) n m) (all-same _ _ m (λ i _. all-same _ _ n (λ s _. ap (validAt n t) (place i s))))
+    let e : n * m + 1 - 1 ≡ m * n = omega (arith, mul-comm n m) in
+    rw (e, ← all-pairs (λ k. validAt n t (targetAt + copySize * 1 + copySize * k)) n m)
+    (all-same _ _ m (λ i _. all-same _ _ n (λ s _. ap (validAt n t) (place i s))))
   where
-    place : (i s : ℕ) → configAt (i * stations t + s) ≡ address (stations t) i s + copyConfigAt
+    place : (i s : ℕ) → targetAt + copySize * 1 + copySize * (i * stations t + s) ≡ address (stations t) i s + copyConfigAt
     place i s = omega arith
+
+-- the target, and those of the copies
+target-in-row : (t : List ℕ) → configsFrom t 0 ≡ (copiesValid t && valid (stations t) (roundOf t .target))
+unfolding validTo allBelow
+target-in-row t =
+    let n = stations t in
+    let c = n * items t in
+    let row : ℕ → Bool = λ k. validAt n t (targetAt + copySize * 0 + copySize * k) in
+    let copies : ℕ → Bool = λ k. validAt n t (targetAt + copySize * 1 + copySize * k) in
+    let e : c + 1 - 0 ≡ 1 + c = omega arith in
+    let f : c ≡ c + 1 - 1 = omega arith in
+    ap (allBelow row) e ∙ all-add row 1 c ∙ and-comm (allBelow row 1) (allBelow (λ k. row (1 + k)) c)
+    ∙ and-same (all-same _ copies c (λ k _. ap (validAt n t) (next k)) ∙ ap (allBelow copies) f ∙ copies-in-row t) refl
+  where
+    next : (k : ℕ) → targetAt + copySize * 0 + copySize * (1 + k) ≡ targetAt + copySize * 1 + copySize * k
+    next k = omega arith
 
 -- ---- soundness in the parts that the code tests
 abbrev pub kind : List ℕ → Kind
@@ -223,7 +206,7 @@ other-kind (suc (suc zero)) h = absurd (omega arith)
 other-kind (suc (suc (suc k))) h = refl
 
 -- one of the kinds that is no change has no target to be tested
-pub no-target : (t : List ℕ) (k : ℕ) → k ≤ 3 → (k ≡ 3 → ⊥) → targetSound t (kindOf k) ≡ true
+no-target : (t : List ℕ) (k : ℕ) → k ≤ 3 → (k ≡ 3 → ⊥) → targetSound t (kindOf k) ≡ true
 unfolding targetSound
 no-target t zero h ne = refl
 no-target t (suc zero) h ne = refl
@@ -231,11 +214,16 @@ no-target t (suc (suc zero)) h ne = refl
 no-target t (suc (suc (suc zero))) h ne = absurd (ne refl)
 no-target t (suc (suc (suc (suc k)))) h ne = absurd (omega arith)
 
-pub a-target : (t : List ℕ) → targetSound t (kindOf 3) ≡ valid (stations t) (roundOf t .target)
-unfolding targetSound
-a-target t = refl
-
 -- a head that is sound has a kind in range
-pub kind-in-range : (t : List ℕ) → headSound t ≡ true → number t kindAt 1 ≤ 3
+kind-in-range : (t : List ℕ) → headSound t ≡ true → number t kindAt 1 ≤ 3
 unfolding headSound
 kind-in-range t e = leb-true _ _ (and-left _ _ (and-left _ _ (and-left _ _ (and-left _ _ (and-left _ _ e)))))
+
+-- ---- past the tests of length and head: what is left, for a change and for any other kind
+pub sound-change : (t : List ℕ) → sizeSound t ≡ true → headSound t ≡ true → number t kindAt 1 ≡ 3 → restSound t 0 ≡ sound t
+unfolding targetSound
+sound-change t s h e = rw (sound-parts t, s, h, target-in-row t, e)
+
+pub sound-other : (t : List ℕ) → sizeSound t ≡ true → headSound t ≡ true → (number t kindAt 1 ≡ 3 → ⊥) → restSound t 1 ≡ sound t
+sound-other t s h ne =
+    rw (sound-parts t, s, h, copies-in-row t, no-target t (number t kindAt 1) (kind-in-range t h) ne, and-true (copiesValid t))

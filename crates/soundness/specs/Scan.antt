@@ -1,15 +1,15 @@
--- How the code tests soundness: the parts of the list of tests, and the scan over the copies' configurations.
+-- How the code tests soundness: the parts of the list of tests, and the configurations in a row.
 -- Not for the crates above: a reader needs `sound`, to which `is_sound` is proved equal.
 use mathlib.Core.Bool.{Bool, true, not, _&&_}
 use mathlib.Core.List.{List}
-use Prim.Native.Nat.{ℕ, _+_, _*_}
-use lib.ListN.{getD, take}
+use Prim.Native.Nat.{ℕ, _+_, _-_, _*_}
+use lib.ListN.{take}
 use lib.Dec.{ltb, leb, eqb}
-use Rattle.quorum.specs.Tests.{all, allBelow}
+use Rattle.quorum.specs.Tests.{all}
 use Rattle.quorum.specs.Bytes.{number}
 use Rattle.quorum.specs.Sets.{shares, within, unite}
 use Rattle.quorum.specs.Configurations.{valid, validTo}
-use Rattle.layout.specs.Layout.{headSize, kindAt, spareAt, copySize, copyConfigAt, configSize}
+use Rattle.layout.specs.Layout.{kindAt, spareAt, targetAt, copySize}
 use Rattle.layout.specs.Fields.{Kind, none, read, write, change, stations, items, offSet, roundOf}
 use Rattle.layout.specs.Soundness.{isZero, roundSound, soundness}
 
@@ -40,19 +40,11 @@ targetSound t read = true
 targetSound t write = true
 targetSound t change = valid (stations t) (roundOf t .target)
 
--- the copies one after the other: where the configuration of copy k starts, and whether those of the copies before copy k are valid
-abbrev pub configAt : ℕ → ℕ
-configAt k = headSize + copyConfigAt + copySize * k
+-- the configurations one after the other, from one on: number 0 is the target, which stands in the head where that of a copy stands in
+-- the copy; number k is that of the copy before copy k
+abbrev pub configsFrom : List ℕ → ℕ → Bool
+configsFrom t first = validTo (stations t) t (targetAt + copySize * first) copySize (stations t * items t + 1 - first)
 
-abbrev pub copiesTo : List ℕ → ℕ → ℕ → Bool
-copiesTo t n k = validTo n t (headSize + copyConfigAt) copySize k
-
--- the byte at a place is the same in each of the next eight copies; so is the configuration
-abbrev pub sameByte : List ℕ → ℕ → ℕ → Bool
-sameByte t a b = eqb (getD t a 0) (getD t b 0)
-
-unfoldable pub sameLane : List ℕ → ℕ → Bool
-sameLane t at = allBelow (λ j. sameByte t (at + copySize + copySize * j) at) 8
-
-unfoldable pub sameBlock : List ℕ → ℕ → Bool
-sameBlock t at = allBelow (λ k. sameLane t (at + k)) configSize
+-- what the round's kind asks for, and the configurations from one on
+abbrev pub restSound : List ℕ → ℕ → Bool
+restSound t first = roundBlank t (roundOf t .kind) && configsFrom t first

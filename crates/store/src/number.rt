@@ -167,6 +167,8 @@ fn put_kind_number(t: &[u8], sort: u64) -> u64
     requires { ⌜ (sound (now t) ≡ true) × (number (now t) kindAt 1 ≡ 0 → ⊥) ⌝ }
     ensures { λ r. ⌜ r ≡ first (putTests (view (now (t .entry))) (view (now (t .entry)) .round .kind) sort) ⌝ }
 {
+    // Lent on, so that the compiler hands address and length over in registers.
+    let t = &*t;
     let k = kind(t);
     if k == READ {
         return WRONG_PUT;

@@ -5,15 +5,15 @@ use mathlib.Core.List.{List}
 use Prim.Native.Nat.{ℕ, zero, suc, _+_, _-_, _*_, _≤_, _<_}
 use native.Mathlib.Omega.{arith}
 use native.Mathlib.Numerals.{add-one}
-use native.Mathlib.Nat.{mul-suc, mul-zero}
-use lib.ListN.{length, getD, take, drop, length-take, length-drop}
+use native.Mathlib.Nat.{mul-suc, mul-zero, mul-add}
+use lib.ListN.{length, getD, drop, length-take, length-drop}
 use lib.Seq.{take-all, ext-getD, getD-take, getD-drop}
-use lib.Dec.{eqb}
-use borrow.Author.Tests.{eqb-true}
+use lib.Dec.{eqb, ltb}
+use borrow.Author.Tests.{eqb-true, ltb-true, ltb-false}
 use Rattle.quorum.specs.Tests.{allBelow}
 use Rattle.quorum.specs.Bytes.{part}
 use Rattle.quorum.specs.Configurations.{valid, validAt, validTo}
-use Rattle.validity.specs.Pairs.{sameAgain}
+use Rattle.validity.specs.Pairs.{sameAgain, sameLane, sameBlock}
 use Rattle.quorum.proofs.Tests.{clash, by-cases, and-both, all-below, below-all}
 
 part-length : (t : List ℕ) (a w : ℕ) → a + w ≤ length t → length (part t a w) ≡ w
@@ -34,6 +34,18 @@ unfolding sameAgain
 again-valid n t at stride h e v =
     let g : at + 32 ≤ length t = omega arith in
     rw (same-part t (at + stride) at 32 h g (λ k l. eqb-true _ _ (all-below _ 32 e k l))) v
+
+-- so are eight, a stride apart, with the bytes of a valid one
+pub block-valid : (n : ℕ) (t : List ℕ) (at stride : ℕ) → at + 32 ≤ length t → ((j : ℕ) → j < 8 → at + stride + stride * j + 32 ≤ length t)
+    → sameBlock t at stride ≡ true → validAt n t at ≡ true → (j : ℕ) → j < 8 → validAt n t (at + stride + stride * j) ≡ true
+unfolding sameBlock sameLane
+block-valid n t at stride h room e v j l = rw (same-part t (at + stride + stride * j) at 32 (room j l) h byte) v
+  where
+    byte : (k : ℕ) → k < 32 → getD t (at + stride + stride * j + k) 0 ≡ getD t (at + k) 0
+    byte k m =
+        let q : at + stride + stride * j + k ≡ at + k + stride + stride * j = omega arith in
+        let lane = all-below (λ k. sameLane t (at + k) stride) 32 e k m in
+        rw q (eqb-true _ _ (all-below (λ j. eqb (getD t (at + k + stride + stride * j) 0) (getD t (at + k) 0)) 8 lane j l))
 
 -- ---- configurations a stride apart
 module _ (n : ℕ) (t : List ℕ) (at stride : ℕ) where
@@ -57,6 +69,37 @@ module _ (n : ℕ) (t : List ℕ) (at stride : ℕ) where
   unfolding validTo
   one-fails to k l e =
       by-cases (λ (b : Bool). false ≡ b) (validTo n t at stride to) (λ v. clash (all-below _ to v k l) e) (λ _. refl)
+
+  pub fewer : (j k : ℕ) → j ≤ k → validTo n t at stride k ≡ true → validTo n t at stride j ≡ true
+  unfolding validTo
+  fewer j k l v = below-all _ j (λ i m. all-below _ k v i (omega arith))
+
+  pub fewer-fail : (j k : ℕ) → j ≤ k → validTo n t at stride j ≡ false → false ≡ validTo n t at stride k
+  fewer-fail j k l e = by-cases (λ (b : Bool). false ≡ b) (validTo n t at stride k) (λ v. clash (fewer j k l v) e) (λ _. refl)
+
+  -- the place of one that is some strides on
+  pub stride-on : (k j : ℕ) → (k ≡ 0 → ⊥) → at + stride * (k - 1) + stride + stride * j ≡ at + stride * (k + j)
+  stride-on zero j ne = absurd (ne refl)
+  stride-on (suc k) j ne =
+      let z : suc k - 1 ≡ k = omega arith in
+      let e : stride * suc k ≡ stride * k + stride = omega (arith, mul-suc stride k) in
+      rw (z, mul-add stride (suc k) j) (omega arith)
+
+  -- eight more that are the same as the one before them
+  pub eight-more : (k : ℕ) → (k ≡ 0 → ⊥) → ((i : ℕ) → i < k + 8 → at + stride * i + 32 ≤ length t)
+      → sameBlock t (at + stride * (k - 1)) stride ≡ true → validTo n t at stride k ≡ true → validTo n t at stride (k + 8) ≡ true
+  unfolding validTo
+  eight-more k ne room e v = below-all _ (k + 8) (λ i l.
+      by-cases (λ _. validAt n t (at + stride * i) ≡ true) (ltb i k) (λ below. all-below _ k v i (ltb-true _ _ below))
+      (λ above. later i l (ltb-false _ _ above)))
+    where
+      later : (i : ℕ) → i < k + 8 → k ≤ i → validAt n t (at + stride * i) ≡ true
+      later i l g =
+          let j = i - k in
+          let f : k + j ≡ i = omega arith in
+          rw (← f, ← stride-on k j ne)
+          (block-valid n t (at + stride * (k - 1)) stride (room (k - 1) (omega arith))
+          (λ j m. rw (stride-on k j ne) (room (k + j) (omega arith))) e (one-before k ne v) j (omega arith))
 
   pub none-yet : validTo n t at stride 0 ≡ true
   unfolding validTo allBelow

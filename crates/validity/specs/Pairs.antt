@@ -1,5 +1,6 @@
 -- How the code tests validity. Not for the crates above: a reader needs `valid`, to which `is_valid` is proved equal.
-use mathlib.Core.Bool.{Bool, cond, _&&_}
+use mathlib.Core.Path.{_≡_}
+use mathlib.Core.Bool.{Bool, true, cond, _&&_}
 use mathlib.Core.List.{List, [], _∷_}
 use Prim.Native.Nat.{ℕ, _+_, _-_, _*_, _<_}
 use lib.ListN.{getD}
@@ -7,7 +8,7 @@ use lib.Dec.{eqb}
 use lib.Bits.{bitOr}
 use Rattle.quorum.specs.Tests.{allBelow}
 use Rattle.quorum.specs.Sets.{shares, within, full}
-use Rattle.quorum.specs.Configurations.{setAt}
+use Rattle.quorum.specs.Configurations.{setAt, validTo}
 
 -- A set as the pairs are tested, by the set of the next place. An unused place stands for all stations, which share one with every
 -- used set; but one right before a used place stays empty and shares none, so that a gap is found.
@@ -49,3 +50,14 @@ fourWithin n c place =
 -- the 32 bytes at a place are those a stride further on
 unfoldable pub sameAgain : List ℕ → ℕ → ℕ → Bool
 sameAgain bytes at stride = allBelow (λ i. eqb (getD bytes (at + stride + i) 0) (getD bytes (at + i) 0)) 32
+
+-- the byte at a place is the same one stride further on, two, and so on to eight; so are the 32 bytes at a place
+unfoldable pub sameLane : List ℕ → ℕ → ℕ → Bool
+sameLane bytes at stride = allBelow (λ j. eqb (getD bytes (at + stride + stride * j) 0) (getD bytes at 0)) 8
+
+unfoldable pub sameBlock : List ℕ → ℕ → ℕ → Bool
+sameBlock bytes at stride = allBelow (λ i. sameLane bytes (at + i) stride) 32
+
+-- where the first configurations are valid, so are some more, for any number of stations
+abbrev pub Kept : List ℕ → ℕ → ℕ → ℕ → ℕ → Type 0
+Kept bytes at stride from to = (n : ℕ) → validTo n bytes at stride from ≡ true → validTo n bytes at stride to ≡ true

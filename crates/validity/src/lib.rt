@@ -4,7 +4,7 @@ ghost use mathlib.Core.Bool.{true, false};
 ghost use Prim.Native.Nat.{ℕ, _+_, _-_, _*_, _<_, _≤_};
 ghost use lib.ListN.{length};
 ghost use Rattle.quorum.specs.Configurations.{valid, validAt, validTo};
-ghost use Rattle.validity.specs.Pairs.{filled, filledSide, rowOk, pairsOk, four, FourFit, outsideOf, fourWithin, sameAgain};
+ghost use Rattle.validity.specs.Pairs.{filled, filledSide, rowOk, pairsOk, four, FourFit, outsideOf, fourWithin, sameAgain, sameLane, sameBlock, Kept};
 use quorum::all_stations;
 use quorum::load_set;
 use quorum::share_station;
@@ -138,8 +138,8 @@ fn next_ok(bytes: &[u8], at: usize, stride: usize, first: bool, n: usize) -> boo
     config_ok(&bytes[at..at + 32], n)
 }
 
-// Whether the first configurations of those that stand a stride apart, from a place on, are valid. Those before `from` are.
-pub fn all_valid(bytes: &[u8], at: usize, stride: usize, from: usize, to: usize, n: usize) -> bool
+// The same for those from one number to another; those before are.
+fn run_valid(bytes: &[u8], at: usize, stride: usize, from: usize, to: usize, n: usize) -> bool
     requires { ⌜ (1 ≤ n) × (n ≤ 16) × (from ≤ to) × ((k : ℕ) → k < to → at + stride * k + 32 ≤ length (now bytes)) ⌝ }
     requires { ⌜ validTo n (now bytes) at stride from ≡ true ⌝ }
     ensures { λ r. ⌜ r ≡ validTo n (now (bytes .entry)) at stride to ⌝ }
@@ -151,6 +151,84 @@ pub fn all_valid(bytes: &[u8], at: usize, stride: usize, from: usize, to: usize,
     }
     true
 }
+
+// Whether the byte at a place is the same one stride further on, two, and so on to eight.
+fn same_lane(bytes: &[u8], at: usize, stride: usize) -> bool
+    requires { ⌜ (at < length (now bytes)) × ((j : ℕ) → j < 8 → at + stride + stride * j < length (now bytes)) ⌝ }
+    ensures { λ r. ⌜ r ≡ sameLane (now (bytes .entry)) at stride ⌝ }
+{
+    let mut ok = true;
+    for j in 0..8usize {
+        ok = ok & (bytes[at + stride + stride * j] == bytes[at]);
+    }
+    ok
+}
+
+// The same for the 32 bytes at a place. No byte is skipped, so that the compiler compares sixteen at once.
+fn same_block(bytes: &[u8], at: usize, stride: usize) -> bool
+    requires { ⌜ (at + 32 ≤ length (now bytes)) × ((j : ℕ) → j < 8 → at + stride + stride * j + 32 ≤ length (now bytes)) ⌝ }
+    ensures { λ r. ⌜ r ≡ sameBlock (now (bytes .entry)) at stride ⌝ }
+{
+    let mut ok = true;
+    for b in 0..32usize {
+        ok = ok & same_lane(bytes, at + b, stride);
+    }
+    ok
+}
+
+// Past those, eight at a time, that are the same as the one before them: the number of the next one to test.
+fn past_same(bytes: &[u8], at: usize, stride: usize, from: usize, count: usize) -> usize
+    requires { ⌜ (1 ≤ from) × (from ≤ count) × ((k : ℕ) → k < count → at + stride * k + 32 ≤ length (now bytes)) ⌝ }
+    ensures { λ r. ⌜ (from ≤ r) × (r ≤ count) × Kept (now (bytes .entry)) at stride from r ⌝ }
+{
+    let mut k = from;
+    while 8 <= count - k {
+        if !same_block(bytes, at + stride * (k - 1), stride) {
+            return k;
+        }
+        k = k + 8;
+    }
+    k
+}
+
+// Where the first run of configurations that are tested one by one ends: with the first of them, unless there are few.
+fn first_end(count: usize) -> usize
+    requires { ⌜ 1 ≤ count ⌝ }
+    ensures { λ r. ⌜ (1 ≤ r) × (r ≤ count) ⌝ }
+{
+    if count <= 8 { count } else { 1 }
+}
+
+// Where a later run ends.
+fn next_end(k: usize, count: usize) -> usize
+    requires { ⌜ k ≤ count ⌝ }
+    ensures { λ r. ⌜ (k ≤ r) × (r ≤ count) × (k < count → k < r) ⌝ }
+{
+    if count - k < 8 { count } else { k + 8 }
+}
+
+// Whether so many configurations that stand a stride apart, from a place on, are valid. One that is the same as the one before it is
+// not tested again.
+pub fn all_valid(bytes: &[u8], at: usize, stride: usize, count: usize, n: usize) -> bool
+    requires { ⌜ (1 ≤ n) × (n ≤ 16) × (1 ≤ count) × ((k : ℕ) → k < count → at + stride * k + 32 ≤ length (now bytes)) ⌝ }
+    ensures { λ r. ⌜ r ≡ validTo n (now (bytes .entry)) at stride count ⌝ }
+{
+    // Lent on, so that the compiler hands address and length over in registers.
+    let bytes = &*bytes;
+    let mut k = 0;
+    let mut end = first_end(count);
+    while k < count {
+        if !run_valid(bytes, at, stride, k, end, n) {
+            return false;
+        }
+        k = past_same(bytes, at, stride, end, count);
+        end = next_end(k, count);
+    }
+    true
+}
+
+// With one configuration the stride does not matter. It is that of a table's copies, so that the compiler has one number for it.
+const TABLE_STRIDE: usize = 56;
 
 // Whether the bytes are a valid configuration of n stations.
 pub fn is_valid(config: &[u8], n: usize) -> bool
@@ -165,5 +243,5 @@ pub fn is_valid(config: &[u8], n: usize) -> bool
     if 16 < n {
         return false;
     }
-    all_valid(config, 0, 32, 0, 1, n)
+    all_valid(config, 0, TABLE_STRIDE, 1, n)
 }

@@ -45,8 +45,8 @@ share-station-requires c κs = search needs
 share-station-requires-2 : tie.Need-share-station-requires-2
 share-station-requires-2 c κs = search needs
 
-is-blank-requires : tie.Need-is-blank-requires
-is-blank-requires c κs = search needs
+u32-at-requires : tie.Need-u32-at-requires
+u32-at-requires c κs = search needs
 
 returns : tie.Need-returns
 unfolding headSound
@@ -70,5 +70,5 @@ head-ok-spec =
     is-within-requires
     share-station-requires
     share-station-requires-2
-    is-blank-requires
+    u32-at-requires
     returns)

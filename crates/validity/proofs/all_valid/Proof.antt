@@ -2,64 +2,63 @@ use borrow.Author.Needs.{needs}
 use native.Mathlib.Omega.{arith}
 use mathlib.Core.Path.{_≡_, sym, ap, _∙_}
 use mathlib.Core.Bool.{true}
-use Prim.Native.Nat.{_+_, _-_, _*_, _≤_}
-use lib.ListN.{length}
+use Prim.Native.Nat.{_-_, _≤_, _<_}
 use native.Mathlib.Nat.{le-antisymm}
-use borrow.Author.Tests.{not-true, not-false, eqb-false}
+use borrow.Author.Tests.{not-true, not-false}
 use Rattle.quorum.specs.Configurations.{validTo}
-use Rattle.validity.proofs.Same.{stride-back, one-before, one-more, one-fails}
+use Rattle.validity.proofs.Same.{none-yet, fewer-fail}
 use Rattle.validity.proofs.all_valid.Statement.{statement}
 use Rattle.validity.proofs.all_valid.Tie as tie
 
 abbrev Inv-loop : tie.InvT-loop
-Inv-loop bytes at stride from to n k₀ k = (k ≤ to) × (validTo n bytes at stride k ≡ true)
+Inv-loop bytes at stride count n lent k₀ end₀ k end = (k ≤ end) × (end ≤ count) × (k < count → k < end) × (validTo n bytes at stride k ≡ true)
 
 abbrev μ-loop : tie.MeasureT-loop
-μ-loop bytes at stride from to n k₀ k = to - k
+μ-loop bytes at stride count n lent k₀ end₀ k end = count - k
 
--- the bytes of configuration k
-room : (c : tie.In-loop Inv-loop μ-loop) → let a = c .before .before .before .args in a .at + a .stride * c .before .loop .k + 32 ≤ length (a .bytes .now)
-room c = c .before .before .before .pre .0 .3 (c .before .loop .k) (c .loop-test .taken)
+-- past a run that is valid, more are tested than before it
+further : (c : tie.Else1 Inv-loop μ-loop) → let turn = c .before .before .before .loop in turn .k < turn .end
+further c = let test = c .before .before in test .before .loop .inv .2 (test .loop-test .taken)
+
+first-end-requires : tie.Need-first-end-requires Inv-loop μ-loop
+first-end-requires c κs = search needs
 
 loop-holds : tie.Need-loop-holds Inv-loop μ-loop
-loop-holds c = search needs
+loop-holds c =
+    let a = c .before .before .args in
+    (search needs, search needs, λ _. c .first-end .ensures .0, none-yet (a .n) (a .bytes .now) (a .at) (a .stride))
 
-mul-next-ok : tie.Need-mul-next-ok Inv-loop μ-loop
-mul-next-ok c = let h = room c in search needs
-
-add-next-ok : tie.Need-add-next-ok Inv-loop μ-loop
-add-next-ok c = let h = room c in search needs
-
-next-ok-requires : tie.Need-next-ok-requires Inv-loop μ-loop
-next-ok-requires c κs =
-    let a = c .before .before .before .args in
-    let k = c .before .loop .k in (
-      (search needs, search needs, room c),
-      λ e. let ne = eqb-false k 0 e in
-          let h = stride-back (a .n) (a .bytes .now) (a .at) (a .stride) k ne in
-          (h .0, rw (h .1) (one-before (a .n) (a .bytes .now) (a .at) (a .stride) k ne (c .before .loop .inv .1))),
-    )
+run-valid-requires : tie.Need-run-valid-requires Inv-loop μ-loop
+run-valid-requires c κs =
+    let start = c .before .before .before .before in
+    ((search needs, search needs, search needs, λ k l. start .pre .3 k (omega arith)), c .before .loop .inv .3)
 
 returns : tie.Need-returns Inv-loop μ-loop
 returns c =
-    let test = c .before .before in
-    one-fails _ _ _ _ _ (test .before .loop .k) (test .loop-test .taken) (sym (c .before .next-ok .ensures) ∙ not-true _ (c .if1 .taken))
+    let turn = c .before .before .before .loop in
+    fewer-fail _ _ _ _ (turn .end) _ (turn .inv .1) (sym (c .before .run-valid .ensures) ∙ not-true _ (c .if1 .taken))
 
-add-k : tie.Need-add-k Inv-loop μ-loop
-add-k c = search needs
+past-same-requires : tie.Need-past-same-requires Inv-loop μ-loop
+past-same-requires c κs = let l = further c in (omega arith, search needs, c .before .before .before .before .before .before .pre .3)
+
+next-end-requires : tie.Need-next-end-requires Inv-loop μ-loop
+next-end-requires c κs = c .past-same .ensures .1
 
 loop-less : tie.Need-loop-less Inv-loop μ-loop
-loop-less c = search needs
+loop-less c = let l = further (c .before .before) in let g = c .before .past-same .ensures in omega arith
 
 loop-again : tie.Need-loop-again Inv-loop μ-loop
 loop-again c =
-    let turn = c .before .before .before .loop in
-    (search needs, one-more _ _ _ _ (turn .k) (turn .inv .1) (sym (c .before .next-ok .ensures) ∙ not-false _ (c .if1 .left)))
+    let run = c .before .before in
+    let next = c .next-end .ensures in
+    let valid = sym (run .before .run-valid .ensures) ∙ not-false _ (run .if1 .left) in
+    (next .0, next .1, next .2, c .before .past-same .ensures .2 _ valid)
 
 returns-2 : tie.Need-returns-2 Inv-loop μ-loop
 returns-2 c =
-    let a = c .before .before .before .args in
-    sym (ap (validTo (a .n) (a .bytes .now) (a .at) (a .stride)) (le-antisymm (c .loop-test .left) (c .before .loop .inv .0)) ∙ c .before .loop .inv .1)
+    let a = c .before .before .before .before .args in
+    let kept = c .before .loop .inv in
+    sym (ap (validTo (a .n) (a .bytes .now) (a .at) (a .stride)) (le-antisymm (c .loop-test .left) (omega arith)) ∙ kept .3)
 
 pub all-valid-spec : {M : Type 1} → statement M
 all-valid-spec =
@@ -67,12 +66,12 @@ all-valid-spec =
     (tie.spec
     Inv-loop
     μ-loop
+    first-end-requires
     loop-holds
-    mul-next-ok
-    add-next-ok
-    next-ok-requires
+    run-valid-requires
     returns
-    add-k
+    past-same-requires
+    next-end-requires
     loop-less
     loop-again
     returns-2)

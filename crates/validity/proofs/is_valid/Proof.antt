@@ -2,7 +2,7 @@ use borrow.Author.Needs.{needs}
 use native.Mathlib.Omega.{arith}
 use mathlib.Core.Path.{_∙_}
 use Rattle.quorum.proofs.Validity.{invalid}
-use Rattle.validity.proofs.Same.{none-yet, one-only}
+use Rattle.validity.proofs.Same.{one-only}
 use Rattle.validity.proofs.is_valid.Statement.{statement}
 use Rattle.validity.proofs.is_valid.Tie as tie
 
@@ -17,11 +17,10 @@ returns-3 c = invalid _ _ (λ v. let h = v .small in omega arith)
 
 all-valid-requires : tie.Need-all-valid-requires
 all-valid-requires c κs =
-    let a = c .before .before .before .before .args in
-    ((search needs, search needs, search needs, λ k l. omega (arith, c .before .before .if1 .left)), none-yet (a .n) (a .config .now) 0 32)
+    (search needs, search needs, search needs, λ k l. omega (arith, c .before .before .if1 .left))
 
 returns-4 : tie.Need-returns-4
-returns-4 c = c .all-valid .ensures ∙ one-only _ _ 32 (c .before .before .before .if1 .left)
+returns-4 c = c .all-valid .ensures ∙ one-only _ _ 56 (c .before .before .before .if1 .left)
 
 pub is-valid-spec : {M : Type 1} → statement M
 is-valid-spec = tie.close (tie.spec returns returns-2 returns-3 all-valid-requires returns-4)

@@ -1,17 +1,18 @@
+use native.Mathlib.Omega.{arith}
 use borrow.Author.Needs.{needs}
 use mathlib.Core.Path.{_≡_, sym}
 use Prim.Native.Nat.{_+_, _-_, _≤_}
 use Rattle.quorum.specs.Tests.{allBelow}
 use Rattle.quorum.proofs.Tests.{all-start, all-turn, all-end}
-use Rattle.soundness.specs.Scan.{sameLane, sameBlock}
-use Rattle.soundness.proofs.same_block.Statement.{statement}
-use Rattle.soundness.proofs.same_block.Tie as tie
+use Rattle.validity.specs.Pairs.{sameLane, sameBlock}
+use Rattle.validity.proofs.same_block.Statement.{statement}
+use Rattle.validity.proofs.same_block.Tie as tie
 
 abbrev Inv-loop : tie.InvT-loop
-Inv-loop t at ok₀ k₀ ok k = (k ≤ 32) × (ok ≡ allBelow (λ i. sameLane t (at + i)) k)
+Inv-loop bytes at stride ok₀ b₀ ok b = (b ≤ 32) × (ok ≡ allBelow (λ i. sameLane bytes (at + i) stride) b)
 
 abbrev μ-loop : tie.MeasureT-loop
-μ-loop t at ok₀ k₀ ok k = 32 - k
+μ-loop bytes at stride ok₀ b₀ ok b = 32 - b
 
 loop-holds : tie.Need-loop-holds Inv-loop μ-loop
 loop-holds c = (search needs, sym (all-start _))
@@ -20,10 +21,10 @@ add-same-lane : tie.Need-add-same-lane Inv-loop μ-loop
 add-same-lane c = search needs
 
 same-lane-requires : tie.Need-same-lane-requires Inv-loop μ-loop
-same-lane-requires c κs = search needs
+same-lane-requires c κs = (search needs, λ j l. let h = c .before .before .before .pre .1 j l in omega arith)
 
-add-k : tie.Need-add-k Inv-loop μ-loop
-add-k c = search needs
+add-b : tie.Need-add-b Inv-loop μ-loop
+add-b c = search needs
 
 loop-less : tie.Need-loop-less Inv-loop μ-loop
 loop-less c = search needs
@@ -44,7 +45,7 @@ same-block-spec =
     loop-holds
     add-same-lane
     same-lane-requires
-    add-k
+    add-b
     loop-less
     loop-again
     returns)

@@ -1,32 +1,39 @@
 use borrow.Author.Needs.{needs}
 use mathlib.Core.Path.{_≡_, refl, sym}
-use Prim.Native.Nat.{_+_, _-_, _*_, _≤_}
+use Prim.Native.Nat.{_+_, _-_, _*_, _≤_, _<_}
 use Rattle.quorum.specs.Tests.{allBelow}
 use Rattle.quorum.proofs.Tests.{all-start, all-turn, all-end}
-use Rattle.soundness.specs.Scan.{sameByte, sameLane}
-use Rattle.soundness.proofs.same_lane.Statement.{statement}
-use Rattle.soundness.proofs.same_lane.Tie as tie
+use lib.ListN.{length, getD}
+use lib.Dec.{eqb}
+use Rattle.validity.specs.Pairs.{sameLane}
+use Rattle.validity.proofs.same_lane.Statement.{statement}
+use Rattle.validity.proofs.same_lane.Tie as tie
 
 abbrev Inv-loop : tie.InvT-loop
-Inv-loop t at ok₀ j₀ ok j = (j ≤ 8) × (ok ≡ allBelow (λ i. sameByte t (at + 56 + 56 * i) at) j)
+Inv-loop bytes at stride ok₀ j₀ ok j = (j ≤ 8) × (ok ≡ allBelow (λ i. eqb (getD bytes (at + stride + stride * i) 0) (getD bytes at 0)) j)
 
 abbrev μ-loop : tie.MeasureT-loop
-μ-loop t at ok₀ j₀ ok j = 8 - j
+μ-loop bytes at stride ok₀ j₀ ok j = 8 - j
+
+-- the byte so many strides on
+room : (c : tie.In-loop Inv-loop μ-loop) → let a = c .before .before .args in
+    a .at + a .stride + a .stride * c .before .loop .j < length (a .bytes .now)
+room c = c .before .before .pre .1 (c .before .loop .j) (c .loop-test .taken)
 
 loop-holds : tie.Need-loop-holds Inv-loop μ-loop
 loop-holds c = (search needs, sym (all-start _))
 
 add-ok : tie.Need-add-ok Inv-loop μ-loop
-add-ok c = search needs
+add-ok c = let h = room c in search needs
 
 mul-ok : tie.Need-mul-ok Inv-loop μ-loop
-mul-ok c = search needs
+mul-ok c = let h = room c in search needs
 
 add-ok-2 : tie.Need-add-ok-2 Inv-loop μ-loop
-add-ok-2 c = search needs
+add-ok-2 c = let h = room c in search needs
 
 shared-slice-read-ok : tie.Need-shared-slice-read-ok Inv-loop μ-loop
-shared-slice-read-ok c = search needs
+shared-slice-read-ok c = let h = room (c .before) in search needs
 
 shared-slice-read-ok-2 : tie.Need-shared-slice-read-ok-2 Inv-loop μ-loop
 shared-slice-read-ok-2 c = search needs
