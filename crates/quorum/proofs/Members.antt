@@ -3,15 +3,16 @@ use mathlib.Core.Path.{_≡_, refl, sym, ap, _∙_}
 use mathlib.Core.Bool.{Bool, true, false, not, _&&_, _||_, and-true, and-false}
 use Prim.Native.Nat.{ℕ, zero, suc, _+_, _-_, _*_, _/_, _%_, _^_, _≤_, _<_, min, max}
 use mathlib.Core.Logic.{_↔_}
-use native.Mathlib.Nat.{not-suc-le-zero, div-one, zero-div, min-eq-left, min-eq-right, one-mul, mod-eq-of-lt, le-of-lt}
+use native.Mathlib.Nat.{not-suc-le-zero, div-one, zero-div, min-eq-left, min-eq-right, one-mul, mod-eq-of-lt, le-of-lt, div-lt-iff-lt-mul}
 use native.Mathlib.Numerals.{one-add}
 use native.Mathlib.Omega.{arith}
 use lib.Dec.{ltb, eqb, leb·suc-suc, eqb·suc-suc, eqb·zero-suc, eqb·suc-zero}
-use lib.Arith.{bin-ind, digits-div, digits-mod}
+use lib.Arith.{bin-ind, digits-div, digits-mod, lt-of-le-ne}
 use lib.Pow.{shr-shr, pow-pos, pow-lt, pow-mono}
-use lib.Bits.{bitAnd, bitOr, and-step, or-step, and-le-l, or-lt}
+use lib.Bits.{bitAnd, bitOr, and-step, or-step, and-le-l, or-lt, and-self, and-zero-r}
+use lib.Count.{trailingZeros, under}
 use borrow.Author.Tests.{ltb-true, lt-ltb, le-ltb, eqb-true, eqb-false, eq-eqb, ne-eqb, not-true}
-use Rattle.quorum.specs.Sets.{member, used, holds, shares, within, join, unite, minus, remove, full}
+use Rattle.quorum.specs.Sets.{member, used, holds, shares, within, join, unite, minus, remove, lowest, full}
 use Rattle.quorum.proofs.Tests.{same-test, and-left, and-right, and-both, or-left, or-right, or-cases, by-cases, clash}
 
 -- ---- station 0, and the stations above it
@@ -104,6 +105,71 @@ member-one (suc i) (suc k) = let h : 2 ^ suc k / 2 ≡ 2 ^ k = omega arith in rw
 pub member-remove : (i k a : ℕ) → member (remove a k) i ≡ (member a i && not (eqb i k))
 unfolding remove
 member-remove i k a = rw (member-minus i a (2 ^ k), member-one i k)
+
+-- ---- the lowest station
+-- what follows from either lowest digit
+by-digit : (a : ℕ) (P : ℕ → Type 0) → (a % 2 ≡ 0 → P 0) → (a % 2 ≡ 1 → P 1) → P (a % 2)
+by-digit a P p q = digit (λ (d : ℕ). a % 2 ≡ d → P d) (a % 2) (omega arith) p q refl
+
+-- the lowest of k digits that is set: its station is in the set, none below it is, and `a & (a - 1)` is the set without it
+first-digit : (k a : ℕ) → a < 2 ^ k → (a ≡ 0 → ⊥) → member a (trailingZeros k a) ≡ true
+unfolding trailingZeros
+first-digit zero a l h = absurd (h (omega arith))
+first-digit (suc k) a l h =
+    by-digit a (λ (d : ℕ). member a (under d (trailingZeros k (a / 2))) ≡ true)
+    (λ e. member-suc a (trailingZeros k (a / 2)) ∙ first-digit k (a / 2) (omega arith) (λ z. h (omega arith)))
+    (λ e. member-zero a ∙ eq-eqb (a % 2) 1 e)
+
+below-first : (k a i : ℕ) → i < trailingZeros k a → member a i ≡ false
+unfolding trailingZeros
+below-first zero a i l = absurd (not-suc-le-zero l)
+below-first (suc k) a zero l =
+    by-digit a (λ (d : ℕ). 0 < under d (trailingZeros k (a / 2)) → member a 0 ≡ false) (λ e l. rw (member-zero a, e)) (λ e l. absurd (not-suc-le-zero l)) l
+below-first (suc k) a (suc i) l =
+    by-digit a (λ (d : ℕ). suc i < under d (trailingZeros k (a / 2)) → member a (suc i) ≡ false)
+    (λ e l. member-suc a i ∙ below-first k (a / 2) i (omega arith)) (λ e l. absurd (not-suc-le-zero l)) l
+
+and-even : (a b : ℕ) → a % 2 ≡ 0 → bitAnd a b ≡ bitAnd (a / 2) (b / 2) * 2
+and-even a b e = omega (arith, and-step a b)
+
+without-even : (a t : ℕ) → (a ≡ 0 → ⊥) → a % 2 ≡ 0 → bitAnd (a / 2) (a / 2 - 1) ≡ minus (a / 2) (2 ^ t) → bitAnd a (a - 1) ≡ minus a (2 ^ suc t)
+unfolding minus
+without-even a t h e ih =
+    let up : (a - 1) / 2 ≡ a / 2 - 1 = omega arith in
+    let down : 2 ^ suc t / 2 ≡ 2 ^ t = omega arith in
+    omega (arith, rw up at (and-even a (a - 1) e), rw down at (and-even a (2 ^ suc t) e))
+
+without-odd : (a : ℕ) → a % 2 ≡ 1 → bitAnd a (a - 1) ≡ minus a 1
+unfolding minus
+without-odd a e =
+    let same : (a - 1) / 2 ≡ a / 2 = omega arith in
+    omega (arith, rw (same, and-self) at (and-step a (a - 1)), rw and-zero-r at (and-step a 1))
+
+without-first : (k a : ℕ) → a < 2 ^ k → (a ≡ 0 → ⊥) → bitAnd a (a - 1) ≡ minus a (2 ^ trailingZeros k a)
+unfolding trailingZeros
+without-first zero a l h = absurd (h (omega arith))
+without-first (suc k) a l h =
+    by-digit a (λ (d : ℕ). bitAnd a (a - 1) ≡ minus a (2 ^ under d (trailingZeros k (a / 2))))
+    (λ e. without-even a (trailingZeros k (a / 2)) h e (without-first k (a / 2) (omega arith) (λ z. h (omega arith)))) (without-odd a)
+
+pub lowest-member : (a : ℕ) → a < 65536 → used a ≡ true → member a (lowest a) ≡ true
+unfolding lowest used
+lowest-member a l e = first-digit 16 a l (eqb-false _ _ (not-true _ e))
+
+pub below-lowest : (a i : ℕ) → i < lowest a → member a i ≡ false
+unfolding lowest
+below-lowest a i l = below-first 16 a i l
+
+pub without-lowest : (a : ℕ) → a < 65536 → (a ≡ 0 → ⊥) → bitAnd a (a - 1) ≡ remove a (lowest a)
+unfolding lowest remove
+without-lowest a l h = without-first 16 a l h
+
+-- without one of its stations a set is a smaller number
+pub remove-less : (a i : ℕ) → member a i ≡ true → remove a i < a
+unfolding remove minus
+remove-less a i m =
+    let gone : member (remove a i) i ≡ false = member-remove i i a ∙ rw (m, eq-eqb i i refl) in
+    lt-of-le-ne (omega arith) (λ e. clash (ap (λ x. member x i) e ∙ m) gone)
 
 -- ---- from the members to the set
 -- a set that has no member is empty
@@ -241,6 +307,14 @@ remove-none a k l h =
 pub all-within : (a n : ℕ) → a < 2 ^ 16 → 16 ≤ n → true ≡ within n a
 unfolding within
 all-within a n l h = let p : 2 ^ 16 ≤ 2 ^ n = pow-mono h in sym (lt-ltb a (2 ^ n) (omega arith))
+
+-- no digit is left above the n lowest exactly if the set is within n
+pub shifted-within : (a n : ℕ) → eqb (a / 2 ^ n) 0 ≡ within n a
+unfolding within
+shifted-within a n =
+    let below : (a / 2 ^ n < 1) ↔ (a < 2 ^ n) = rw one-mul at (div-lt-iff-lt-mul {x = a} {y = 1} (pow-pos n)) in
+    same-test _ _ (λ e. let z = eqb-true (a / 2 ^ n) 0 e in lt-ltb a (2 ^ n) (below .0 (omega arith)))
+    (λ e. let q = below .1 (ltb-true a (2 ^ n) e) in eq-eqb (a / 2 ^ n) 0 (omega arith))
 
 pub full-small : (n : ℕ) → n < 16 → 2 ^ n - 1 ≡ full n
 unfolding full

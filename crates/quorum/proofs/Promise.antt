@@ -15,6 +15,7 @@ use Rattle.quorum.specs.Promise.{Promise, Some, _⊆_, LiesIn, FirstIn, 
 use Rattle.quorum.specs.declared.Place.the-variants.{At}
 use Rattle.quorum.proofs.Tests.{clash, same-test, any-below, below-any}
 use Rattle.quorum.proofs.Members.{member-empty, member-join, member-or, member-minus, member-remove, member-full, same-members, holds-member, member-holds, shares-members, used-member, within-members, within-join, within-unite, within-minus}
+use Rattle.quorum.proofs.Members.{lowest-member, below-lowest, remove-less}
 use Rattle.quorum.proofs.Validity.{valid-facts, facts-valid, first-used, place-lies, lies-place, first-found, first-nowhere}
 
 -- a test that cannot pass fails
@@ -111,6 +112,9 @@ promise =
       same-members = λ a b p q. same-members a b (λ i. same-test _ _ (p i) (q i));
       holds-members = λ a b. (holds-member a b, member-holds a b);
       shares-member = shares-members;
+      lowest-member = lowest-member;
+      below-lowest = below-lowest;
+      remove-less = remove-less;
       within-member = λ n a i w. within-members n a .0 w i;
       member-within = λ n a. within-members n a .1;
       within-empty = λ n. lt-ltb 0 (2 ^ n) (pow-pos n);

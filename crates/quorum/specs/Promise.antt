@@ -8,7 +8,7 @@ use mathlib.Core.Logic.{_↔_}
 use Prim.Native.Nat.{ℕ, suc, _≤_, _<_}
 use lib.Dec.{ltb, eqb}
 use lib.ListN.{length}
-use Rattle.quorum.specs.Sets.{member, used, holds, shares, within, join, unite, minus, remove, full}
+use Rattle.quorum.specs.Sets.{member, used, holds, shares, within, join, unite, minus, remove, lowest, full}
 use Rattle.quorum.specs.Configurations.{readSet, writeSet, valid, holdsRead, holdsWrite, firstRead, firstWrite}
 use Rattle.quorum.specs.declared.Place.the-variants.{At, Nowhere}
 
@@ -86,6 +86,10 @@ pub record Promise : Type 0 where
   pub same-members : (a b : ℕ) → a ⊆ b → b ⊆ a → a ≡ b
   pub holds-members : (a b : ℕ) → (holds a b ≡ true) ↔ (b ⊆ a)
   pub shares-member : (a b : ℕ) → (shares a b ≡ true) ↔ ((i : ℕ) × (member a i ≡ true) × (member b i ≡ true))
+  -- the lowest station of a set that has one is in it, and none below it is; a set without one of its stations is a smaller number
+  pub lowest-member : (a : ℕ) → a < 65536 → used a ≡ true → member a (lowest a) ≡ true
+  pub below-lowest : (a i : ℕ) → i < lowest a → member a i ≡ false
+  pub remove-less : (a i : ℕ) → member a i ≡ true → remove a i < a
   -- ---- stations below n
   pub within-member : (n a i : ℕ) → within n a ≡ true → member a i ≡ true → i < n
   pub member-within : (n a : ℕ) → ((i : ℕ) → member a i ≡ true → i < n) → within n a ≡ true

@@ -4,6 +4,7 @@ use mathlib.Core.Bool.{Bool, not, cond}
 use Prim.Native.Nat.{ℕ, _-_, _/_, _%_, _^_, min}
 use lib.Dec.{ltb, eqb}
 use lib.Bits.{bitAnd, bitOr}
+use lib.Count.{trailingZeros}
 
 -- station i is in the set
 unfoldable pub member : ℕ → ℕ → Bool
@@ -40,6 +41,10 @@ minus a b = a - bitAnd a b
 -- the set without station i
 unfoldable pub remove : ℕ → ℕ → ℕ
 remove set i = minus set (2 ^ i)
+
+-- the lowest station of the set; 16 where it has none
+unfoldable pub lowest : ℕ → ℕ
+lowest set = trailingZeros 16 set
 
 -- the set of all of n stations, at most 16
 unfoldable pub full : ℕ → ℕ

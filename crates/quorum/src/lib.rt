@@ -2,7 +2,7 @@
 ghost use mathlib.Core.Path.{_≡_};
 ghost use Prim.Native.Nat.{_<_, _≤_};
 ghost use lib.ListN.{length};
-ghost use Rattle.quorum.specs.Sets.{member, holds, shares, within, join, unite, minus, remove, full};
+ghost use Rattle.quorum.specs.Sets.{member, holds, shares, within, join, unite, minus, remove, lowest, full};
 ghost use Rattle.quorum.specs.Configurations.{setAt, holdsRead, holdsWrite, firstRead, firstWrite};
 ghost use Rattle.quorum.specs.Inner.{placeHeld, anyHeld, firstHeld};
 
@@ -12,20 +12,12 @@ pub enum Place {
     Nowhere,
 }
 
-// Whether a station below 16 is in the set.
-pub fn has_station(set: u16, station: usize) -> bool
-    requires { ⌜ station < 16 ⌝ }
-    ensures { λ r. ⌜ r ≡ member set station ⌝ }
-{
-    (set >> station) % 2 == 1
-}
-
 // Whether the station is in the set.
 pub fn is_member(set: u16, station: usize) -> bool
     ensures { λ r. ⌜ r ≡ member set station ⌝ }
 {
     if station < 16 {
-        has_station(set, station)
+        (set >> station) % 2 == 1
     } else {
         false
     }
@@ -49,7 +41,7 @@ pub fn share_station(a: u16, b: u16) -> bool
 pub fn is_within(set: u16, n: usize) -> bool
     ensures { λ r. ⌜ r ≡ within n set ⌝ }
 {
-    if n < 16 { set < 1u16 << n } else { true }
+    if n < 32 { (set as u32) >> n == 0 } else { true }
 }
 
 // The set with the station; there is no station 16 or above.
@@ -86,6 +78,20 @@ pub fn without_station(set: u16, station: usize) -> u16
     } else {
         set
     }
+}
+
+// The lowest station of the set; 16 where it has none.
+pub fn lowest(set: u16) -> usize
+    ensures { λ r. ⌜ r ≡ lowest set ⌝ }
+{
+    u16::trailing_zeros(set) as usize
+}
+
+// The set without its lowest station.
+pub fn without_lowest(set: u16) -> u16
+    ensures { λ r. ⌜ r ≡ remove set (lowest set) ⌝ }
+{
+    if set == 0 { 0 } else { set & (set - 1) }
 }
 
 // The set of all of n stations, at most 16.

@@ -59,10 +59,14 @@ pub fn newest_version(t: &[u8], item: usize, set: u16) -> Found
 {
     let n = stations(t);
     let mut best = Found::Nobody;
-    for s in 0..n {
-        if quorum::has_station(set, s) {
-            best = newer_version(t, item, best, s);
+    let mut rest = set;
+    while rest != 0 {
+        let s = quorum::lowest(rest);
+        if n <= s {
+            return best;
         }
+        best = newer_version(t, item, best, s);
+        rest = quorum::without_lowest(rest);
     }
     best
 }
@@ -74,10 +78,14 @@ pub fn newest_generation(t: &[u8], item: usize, set: u16) -> Found
 {
     let n = stations(t);
     let mut best = Found::Nobody;
-    for s in 0..n {
-        if quorum::has_station(set, s) {
-            best = newer_generation(t, item, best, s);
+    let mut rest = set;
+    while rest != 0 {
+        let s = quorum::lowest(rest);
+        if n <= s {
+            return best;
         }
+        best = newer_generation(t, item, best, s);
+        rest = quorum::without_lowest(rest);
     }
     best
 }
@@ -133,6 +141,8 @@ pub fn is_heard(t: &[u8], item: usize, polled: u16) -> bool
     requires { ⌜ (sound (now t) ≡ true) × (item < items (now t)) ⌝ }
     ensures { λ r. ⌜ r ≡ hears (copyOf (now (t .entry)) item) polled (stations (now (t .entry))) ⌝ }
 {
+    // Lent on, so that the compiler hands address and length over in registers.
+    let t = &*t;
     let g = newest_generation(t, item, polled);
     quorum::holds_read_set(config_of(t, item, g), polled)
 }

@@ -1,5 +1,5 @@
-use Rattle.quorum.specs.Sets.{within}
-use Rattle.quorum.proofs.Members.{one-shl, all-within}
+use native.Mathlib.Omega.{arith}
+use Rattle.quorum.proofs.Members.{shifted-within, all-within}
 use borrow.Author.Needs.{needs}
 use Rattle.quorum.proofs.is_within.Statement.{statement}
 use Rattle.quorum.proofs.is_within.Tie as tie
@@ -7,15 +7,14 @@ use Rattle.quorum.proofs.is_within.Tie as tie
 cast-result : tie.Need-cast-result
 cast-result c = search needs
 
-shl-result : tie.Need-shl-result
-shl-result c = search needs
+shr-result : tie.Need-shr-result
+shr-result c = search needs
 
 returns : tie.Need-returns
-unfolding within
-returns c = rw (one-shl (c .before .args .n) 16 (c .if1 .taken))
+returns c = shifted-within _ _
 
 returns-2 : tie.Need-returns-2
-returns-2 c = all-within (c .before .args .set) (c .before .args .n) (c .before .fits .set .fits) (c .if1 .left)
+returns-2 c = all-within (c .before .args .set) (c .before .args .n) (c .before .fits .set .fits) (omega arith)
 
 pub is-within-spec : {M : Type 1} → statement M
-is-within-spec = tie.close (tie.spec cast-result shl-result returns returns-2)
+is-within-spec = tie.close (tie.spec cast-result shr-result returns returns-2)

@@ -1,5 +1,4 @@
 use mathlib.Core.Path.{_∙_}
-use native.Mathlib.Nat.{le-refl}
 use Rattle.rules.specs.Newest.{byGeneration, hears}
 use Rattle.rounds.proofs.Search.{search-within}
 use borrow.Author.Needs.{needs}
@@ -10,7 +9,7 @@ newest-generation-requires : tie.Need-newest-generation-requires
 newest-generation-requires c κs = search needs
 
 config-of-requires : tie.Need-config-of-requires
-config-of-requires c κs = search-within _ _ _ (c .before .before .pre) (c .newest-generation .ensures) (le-refl _)
+config-of-requires c κs = search-within _ _ _ (c .before .before .pre) (c .newest-generation .ensures)
 
 holds-read-set-requires : tie.Need-holds-read-set-requires
 holds-read-set-requires c κs = search needs
