@@ -194,7 +194,9 @@ static inline uint64_t block_difference(const uint8_t *at, const uint8_t *last)
     return any(sum);
 }
 
-static bool all_copies_valid(const uint8_t *at, size_t count, uint64_t n)
+/* Records are the head and the copies: all are 56 bytes long, and a target
+ * stands in the head where the configuration stands in a copy. */
+static bool all_records_valid(const uint8_t *at, size_t count, uint64_t n)
 {
     configuration last = get_configuration(at + CONFIGURATION);
     if (!valid(last, n)) {
@@ -210,7 +212,7 @@ static bool all_copies_valid(const uint8_t *at, size_t count, uint64_t n)
     return copies_valid(at, count, &last, n);
 }
 
-/* The clauses on the head that depend on the kind of round. */
+/* The clauses on the head that depend on the kind of round, the target apart. */
 static inline bool sound_round(const head *h)
 {
     uint64_t target = h->target.read.low | h->target.read.high | h->target.write.low |
@@ -224,7 +226,7 @@ static inline bool sound_round(const head *h)
     case OSPREYSCREEN_ROUND_WRITE:
         return (h->configuration_puts | target) == 0;
     case OSPREYSCREEN_ROUND_CHANGE:
-        return h->value == 0 && valid(h->target, h->n);
+        return h->value == 0;
     default:
         return false;
     }
@@ -262,7 +264,13 @@ static inline bool read_sound(head *h, const uint8_t *table, size_t len)
     if (h->item >= h->m || named >> h->n != 0 || (puts & h->off) != 0 || second >> 32 != 0) {
         return false;
     }
-    return sound_round(h) && all_copies_valid(table + HEAD, h->n * h->m, h->n);
+    if (!sound_round(h)) {
+        return false;
+    }
+    if (h->round == OSPREYSCREEN_ROUND_CHANGE) {
+        return all_records_valid(table, h->n * h->m + 1, h->n);
+    }
+    return all_records_valid(table + HEAD, h->n * h->m, h->n);
 }
 
 /* ---- Rounds ---- */

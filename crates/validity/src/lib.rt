@@ -178,11 +178,11 @@ fn same_block(bytes: &[u8], at: usize, stride: usize) -> bool
 
 // Past those, eight at a time, that are the same as the one before them: the number of the next one to test.
 fn past_same(bytes: &[u8], at: usize, stride: usize, from: usize, count: usize) -> usize
-    requires { ⌜ (1 ≤ from) × (from ≤ count) × ((k : ℕ) → k < count → at + stride * k + 32 ≤ length (now bytes)) ⌝ }
+    requires { ⌜ (1 ≤ from) × (from ≤ count) × (count ≤ 1024) × ((k : ℕ) → k < count → at + stride * k + 32 ≤ length (now bytes)) ⌝ }
     ensures { λ r. ⌜ (from ≤ r) × (r ≤ count) × Kept (now (bytes .entry)) at stride from r ⌝ }
 {
     let mut k = from;
-    while 8 <= count - k {
+    while k + 8 <= count {
         if !same_block(bytes, at + stride * (k - 1), stride) {
             return k;
         }
@@ -201,16 +201,16 @@ fn first_end(count: usize) -> usize
 
 // Where a later run ends.
 fn next_end(k: usize, count: usize) -> usize
-    requires { ⌜ k ≤ count ⌝ }
+    requires { ⌜ (k ≤ count) × (count ≤ 1024) ⌝ }
     ensures { λ r. ⌜ (k ≤ r) × (r ≤ count) × (k < count → k < r) ⌝ }
 {
-    if count - k < 8 { count } else { k + 8 }
+    if k + 8 < count { k + 8 } else { count }
 }
 
 // Whether so many configurations that stand a stride apart, from a place on, are valid. One that is the same as the one before it is
 // not tested again.
 pub fn all_valid(bytes: &[u8], at: usize, stride: usize, count: usize, n: usize) -> bool
-    requires { ⌜ (1 ≤ n) × (n ≤ 16) × (1 ≤ count) × ((k : ℕ) → k < count → at + stride * k + 32 ≤ length (now bytes)) ⌝ }
+    requires { ⌜ (1 ≤ n) × (n ≤ 16) × (1 ≤ count) × (count ≤ 1024) × ((k : ℕ) → k < count → at + stride * k + 32 ≤ length (now bytes)) ⌝ }
     ensures { λ r. ⌜ r ≡ validTo n (now (bytes .entry)) at stride count ⌝ }
 {
     // Lent on, so that the compiler hands address and length over in registers.

@@ -59,7 +59,7 @@ all-valid-requires c κs =
     let h = size (c .before .before .before .before) in
     let e = copies c in
     let n = c .before .stations .ensures in
-    (omega arith, omega arith, omega arith, λ k l. omega arith)
+    (omega arith, omega arith, omega arith, omega arith, λ k l. omega arith)
 
 returns-2 : tie.Need-returns-2
 returns-2 c =

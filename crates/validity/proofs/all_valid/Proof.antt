@@ -31,7 +31,7 @@ loop-holds c =
 run-valid-requires : tie.Need-run-valid-requires Inv-loop μ-loop
 run-valid-requires c κs =
     let start = c .before .before .before .before in
-    ((search needs, search needs, search needs, λ k l. start .pre .3 k (omega arith)), c .before .loop .inv .3)
+    ((search needs, search needs, search needs, λ k l. start .pre .4 k (omega arith)), c .before .loop .inv .3)
 
 returns : tie.Need-returns Inv-loop μ-loop
 returns c =
@@ -39,10 +39,13 @@ returns c =
     fewer-fail _ _ _ _ (turn .end) _ (turn .inv .1) (sym (c .before .run-valid .ensures) ∙ not-true _ (c .if1 .taken))
 
 past-same-requires : tie.Need-past-same-requires Inv-loop μ-loop
-past-same-requires c κs = let l = further c in (omega arith, search needs, c .before .before .before .before .before .before .pre .3)
+past-same-requires c κs =
+    let l = further c in
+    let start = c .before .before .before .before .before .before in
+    (omega arith, search needs, start .pre .3, start .pre .4)
 
 next-end-requires : tie.Need-next-end-requires Inv-loop μ-loop
-next-end-requires c κs = c .past-same .ensures .1
+next-end-requires c κs = (c .past-same .ensures .1, search needs)
 
 loop-less : tie.Need-loop-less Inv-loop μ-loop
 loop-less c = let l = further (c .before .before) in let g = c .before .past-same .ensures in omega arith

@@ -17,7 +17,7 @@ returns-3 c = invalid _ _ (λ v. let h = v .small in omega arith)
 
 all-valid-requires : tie.Need-all-valid-requires
 all-valid-requires c κs =
-    (search needs, search needs, search needs, λ k l. omega (arith, c .before .before .if1 .left))
+    (search needs, search needs, search needs, search needs, λ k l. omega (arith, c .before .before .if1 .left))
 
 returns-4 : tie.Need-returns-4
 returns-4 c = c .all-valid .ensures ∙ one-only _ _ 56 (c .before .before .before .if1 .left)

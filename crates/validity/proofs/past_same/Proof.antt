@@ -18,7 +18,7 @@ abbrev μ-loop : tie.MeasureT-loop
 -- the bytes of the one before the next, and of the eight from the next on
 room : (c : tie.In-loop Inv-loop μ-loop) → let a = c .before .before .before .args in
     (i : ℕ) → i < c .before .loop .k + 8 → a .at + a .stride * i + 32 ≤ length (a .bytes .now)
-room c i l = c .before .before .before .pre .2 i (omega arith)
+room c i l = c .before .before .before .pre .3 i (omega arith)
 
 -- there is one before the next
 started : (c : tie.In-loop Inv-loop μ-loop) → c .before .loop .k ≡ 0 → ⊥
@@ -27,8 +27,8 @@ started c e = omega arith
 loop-holds : tie.Need-loop-holds Inv-loop μ-loop
 loop-holds c = (search needs, search needs, λ n v. v)
 
-sub-loop : tie.Need-sub-loop Inv-loop μ-loop
-sub-loop c = search needs
+add-loop : tie.Need-add-loop Inv-loop μ-loop
+add-loop c = search needs
 
 sub-same-block : tie.Need-sub-same-block Inv-loop μ-loop
 sub-same-block c = search needs
@@ -73,7 +73,7 @@ past-same-spec =
     Inv-loop
     μ-loop
     loop-holds
-    sub-loop
+    add-loop
     sub-same-block
     mul-same-block
     add-same-block
