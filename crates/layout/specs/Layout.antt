@@ -1,4 +1,4 @@
--- Bytes of the table (document 01): every size and offset, named once.
+-- Bytes of the table (document 01): its sizes and offsets.
 use Prim.Native.Nat.{ℕ, _+_, _*_}
 
 -- "Head, 56 bytes: 0 n; 1 m; 2–3 set of stations off the bus; 4 round (0 none, 1 read, 2 write, 3 change); 5 item;

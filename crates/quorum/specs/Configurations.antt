@@ -61,10 +61,11 @@ validity n c =
 unfoldable pub valid : ℕ → List ℕ → Bool
 valid n c = all (validity n c)
 
--- the 32 bytes at a place of a list are a valid configuration; so are the first ones of those that stand a stride apart, from a place on
+-- the 32 bytes at a place of a list are a valid configuration
 abbrev pub validAt : ℕ → List ℕ → ℕ → Bool
 validAt n bytes at = valid n (part bytes at 32)
 
+-- so are the 32 bytes at that place, a stride further on, and so on: as many times as the count says
 unfoldable pub validTo : ℕ → List ℕ → ℕ → ℕ → ℕ → Bool
 validTo n bytes at stride count = allBelow (λ k. validAt n bytes (at + stride * k)) count
 

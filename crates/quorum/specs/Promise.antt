@@ -1,6 +1,6 @@
 -- What the crate promises of its definitions of sets and configurations. The crates above rely on this record and on the
 -- contracts alone for both. `Tests`, `Bytes` and `validTo` are vocabulary that they share with this crate, and use as it is defined.
--- `validity`, the code of one of the tests, belongs to this layer and opens the definitions.
+-- The crate `validity`, the code of one of the tests, belongs to this layer and opens the definitions.
 use mathlib.Core.Path.{_≡_}
 use mathlib.Core.Bool.{true, false, not, _&&_, _||_}
 use mathlib.Core.List.{List}
@@ -86,7 +86,8 @@ pub record Promise : Type 0 where
   pub same-members : (a b : ℕ) → a ⊆ b → b ⊆ a → a ≡ b
   pub holds-members : (a b : ℕ) → (holds a b ≡ true) ↔ (b ⊆ a)
   pub shares-member : (a b : ℕ) → (shares a b ≡ true) ↔ ((i : ℕ) × (member a i ≡ true) × (member b i ≡ true))
-  -- the lowest station of a set that has one is in it, and none below it is; a set without one of its stations is a smaller number
+  -- the lowest station of a set of 16 bits that has one is in it, and none below it is; to take a station out makes the number smaller.
+  -- So a walk over a set takes its stations one by one, and ends.
   pub lowest-member : (a : ℕ) → a < 65536 → used a ≡ true → member a (lowest a) ≡ true
   pub below-lowest : (a i : ℕ) → i < lowest a → member a i ≡ false
   pub remove-less : (a i : ℕ) → member a i ≡ true → remove a i < a

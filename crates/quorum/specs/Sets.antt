@@ -42,7 +42,7 @@ minus a b = a - bitAnd a b
 unfoldable pub remove : ℕ → ℕ → ℕ
 remove set i = minus set (2 ^ i)
 
--- the lowest station of the set; 16 where it has none
+-- the lowest station of the set, where a walk over it begins; 16 where it has none
 unfoldable pub lowest : ℕ → ℕ
 lowest set = trailingZeros 16 set
 

@@ -16,7 +16,7 @@ use Rattle.rules.specs.Calls.{commit}
 use Rattle.rules.specs.Newest.{own}
 use Rattle.rules.specs.Reply.{reply}
 
--- of the polled stations, b has the greatest key, and is the lowest that has it
+-- of the stations of a set, as those polled, b has the greatest key, and is the lowest that has it
 pub record Newest (key : ℕ → ℕ) (polled n b : ℕ) : Type 0 where
   pub station : b < n
   pub isPolled : member polled b ≡ true

@@ -30,7 +30,7 @@ closing v change = record { first = foundByVersion v .value; second = foundByVer
 
 -- "take the configuration of the highest generation among all the item's copies. The figure is 1 if the stations on the bus
 -- hold one of its read sets, 3 if also a write set, else 0." Of copies with equal generations that of the lowest station is taken, as in
--- a round.
+-- a round (docs/DECISIONS.md).
 abbrev pub reachOf : List ℕ → ℕ → ℕ
 reachOf config on = cond (holdsRead config on) (cond (holdsWrite config on) 3 1) 0
 

@@ -40,11 +40,12 @@ targetSound t read = true
 targetSound t write = true
 targetSound t change = valid (stations t) (roundOf t .target)
 
--- the configurations one after the other, from one on: number 0 is the target, which stands in the head where that of a copy stands in
--- the copy; number k is that of the copy before copy k
+-- The configurations in a row: number 0 is the target, which stands in the head where that of a copy stands in the copy; number
+-- 1 + i × n + s is that of the copy of item i at station s. Those from number `first` on are valid.
 abbrev pub configsFrom : List ℕ → ℕ → Bool
 configsFrom t first = validTo (stations t) t (targetAt + copySize * first) copySize (stations t * items t + 1 - first)
 
--- what the round's kind asks for, and the configurations from one on
+-- what the round's kind asks of the head without its target, and the configurations from number `first` on: 0 in a change, 1 in
+-- any other round and in none
 abbrev pub restSound : List ℕ → ℕ → Bool
 restSound t first = roundBlank t (roundOf t .kind) && configsFrom t first

@@ -98,8 +98,8 @@ fn blank_words(t: &[u8], at: usize, count: usize) -> bool
     ok
 }
 
-// Whether the round has only what its kind asks for, and the configurations from one on are valid. They are numbered from the
-// target on: it stands in the head where that of a copy stands in the copy, and the head is as long as a copy.
+// Whether the round has only what its kind asks for, and the configurations from number `first` on are valid. Number 0 is the target: it
+// stands in the head where that of a copy stands in the copy, and the head is as long as a copy. Behind it come those of the copies.
 fn rest_ok(t: &[u8], first: usize) -> bool
     requires { ⌜ (sizeSound (now t) ≡ true) × (first ≤ 1) ⌝ }
     ensures { λ r. ⌜ r ≡ restSound (now (t .entry)) first ⌝ }
@@ -111,5 +111,5 @@ fn rest_ok(t: &[u8], first: usize) -> bool
     }
     let n = head::stations(t);
     let count = n * head::items(t) + 1 - first;
-    all_valid(t, TARGET_AT + COPY_SIZE * first, COPY_SIZE, count, n)
+    all_valid(t, TARGET_AT + COPY_SIZE * first, COPY_SIZE, first, count, n)
 }

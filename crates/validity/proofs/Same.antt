@@ -50,12 +50,11 @@ block-valid n t at stride h room e v j l = rw (same-part t (at + stride + stride
 -- ---- configurations a stride apart
 module _ (n : ℕ) (t : List ℕ) (at stride : ℕ) where
   -- the place of one is a stride after that of the one before it
-  pub stride-back : (k : ℕ) → (k ≡ 0 → ⊥) → (stride ≤ at + stride * k) × (at + stride * k - stride ≡ at + stride * (k - 1))
-  stride-back zero ne = absurd (ne refl)
-  stride-back (suc k) ne =
-      let e : stride * suc k ≡ stride * k + stride = omega (arith, mul-suc stride k) in
+  pub stride-next : (k : ℕ) → (k ≡ 0 → ⊥) → at + stride * (k - 1) + stride ≡ at + stride * k
+  stride-next zero ne = absurd (ne refl)
+  stride-next (suc k) ne =
       let z : suc k - 1 ≡ k = omega arith in
-      (omega arith, rw z (omega arith))
+      rw z (omega (arith, mul-suc stride k))
 
   pub one-before : (k : ℕ) → (k ≡ 0 → ⊥) → validTo n t at stride k ≡ true → validAt n t (at + stride * (k - 1)) ≡ true
   unfolding validTo
@@ -70,20 +69,16 @@ module _ (n : ℕ) (t : List ℕ) (at stride : ℕ) where
   one-fails to k l e =
       by-cases (λ (b : Bool). false ≡ b) (validTo n t at stride to) (λ v. clash (all-below _ to v k l) e) (λ _. refl)
 
-  pub fewer : (j k : ℕ) → j ≤ k → validTo n t at stride k ≡ true → validTo n t at stride j ≡ true
-  unfolding validTo
-  fewer j k l v = below-all _ j (λ i m. all-below _ k v i (omega arith))
-
-  pub fewer-fail : (j k : ℕ) → j ≤ k → validTo n t at stride j ≡ false → false ≡ validTo n t at stride k
-  fewer-fail j k l e = by-cases (λ (b : Bool). false ≡ b) (validTo n t at stride k) (λ v. clash (fewer j k l v) e) (λ _. refl)
+  -- one more that is the same as the one before it
+  pub next-same : (k : ℕ) → (k ≡ 0 → ⊥) → at + stride * k + 32 ≤ length t
+      → sameAgain t (at + stride * (k - 1)) stride ≡ true → validTo n t at stride k ≡ true → validTo n t at stride (k + 1) ≡ true
+  next-same k ne room e v =
+      let f : at + stride * (k - 1) + stride ≡ at + stride * k = stride-next k ne in
+      one-more k v (rw f at (again-valid n t (at + stride * (k - 1)) stride (omega arith) e (one-before k ne v)))
 
   -- the place of one that is some strides on
   pub stride-on : (k j : ℕ) → (k ≡ 0 → ⊥) → at + stride * (k - 1) + stride + stride * j ≡ at + stride * (k + j)
-  stride-on zero j ne = absurd (ne refl)
-  stride-on (suc k) j ne =
-      let z : suc k - 1 ≡ k = omega arith in
-      let e : stride * suc k ≡ stride * k + stride = omega (arith, mul-suc stride k) in
-      rw (z, mul-add stride (suc k) j) (omega arith)
+  stride-on k j ne = rw (mul-add stride k j) (omega (arith, stride-next k ne))
 
   -- eight more that are the same as the one before them
   pub eight-more : (k : ℕ) → (k ≡ 0 → ⊥) → ((i : ℕ) → i < k + 8 → at + stride * i + 32 ≤ length t)

@@ -1,10 +1,11 @@
 // Whether configurations are valid, tested as fast as every call has to: soundness asks it of each copy.
 ghost use mathlib.Core.Path.{_≡_};
-ghost use mathlib.Core.Bool.{true, false};
+ghost use mathlib.Core.Bool.{true};
 ghost use Prim.Native.Nat.{ℕ, _+_, _-_, _*_, _<_, _≤_};
 ghost use lib.ListN.{length};
-ghost use Rattle.quorum.specs.Configurations.{valid, validAt, validTo};
-ghost use Rattle.validity.specs.Pairs.{filled, filledSide, rowOk, pairsOk, four, FourFit, outsideOf, fourWithin, sameAgain, sameLane, sameBlock, Kept};
+ghost use Rattle.quorum.specs.Configurations.{valid, validTo};
+ghost use Rattle.validity.specs.Pairs.{filled, filledSide, rowOk, pairsOk, four, FourFit, outsideOf, fourWithin};
+ghost use Rattle.validity.specs.Pairs.{sameAgain, sameLane, sameBlock, StillValid};
 use quorum::all_stations;
 use quorum::load_set;
 use quorum::share_station;
@@ -124,34 +125,6 @@ fn same_again(bytes: &[u8], at: usize, stride: usize) -> bool
     ok
 }
 
-// Whether the configuration at a place is valid; unless it is the first, the one a stride before it is, and may be the same.
-fn next_ok(bytes: &[u8], at: usize, stride: usize, first: bool, n: usize) -> bool
-    requires { ⌜ (1 ≤ n) × (n ≤ 16) × (at + 32 ≤ length (now bytes)) ⌝ }
-    requires { ⌜ (first ≡ false → (stride ≤ at) × (validAt n (now bytes) (at - stride) ≡ true)) ⌝ }
-    ensures { λ r. ⌜ r ≡ validAt n (now (bytes .entry)) at ⌝ }
-{
-    if !first {
-        if same_again(bytes, at - stride, stride) {
-            return true;
-        }
-    }
-    config_ok(&bytes[at..at + 32], n)
-}
-
-// The same for those from one number to another; those before are.
-fn run_valid(bytes: &[u8], at: usize, stride: usize, from: usize, to: usize, n: usize) -> bool
-    requires { ⌜ (1 ≤ n) × (n ≤ 16) × (from ≤ to) × ((k : ℕ) → k < to → at + stride * k + 32 ≤ length (now bytes)) ⌝ }
-    requires { ⌜ validTo n (now bytes) at stride from ≡ true ⌝ }
-    ensures { λ r. ⌜ r ≡ validTo n (now (bytes .entry)) at stride to ⌝ }
-{
-    for k in from..to {
-        if !next_ok(bytes, at + stride * k, stride, k == 0, n) {
-            return false;
-        }
-    }
-    true
-}
-
 // Whether the byte at a place is the same one stride further on, two, and so on to eight.
 fn same_lane(bytes: &[u8], at: usize, stride: usize) -> bool
     requires { ⌜ (at < length (now bytes)) × ((j : ℕ) → j < 8 → at + stride + stride * j < length (now bytes)) ⌝ }
@@ -176,11 +149,22 @@ fn same_block(bytes: &[u8], at: usize, stride: usize) -> bool
     ok
 }
 
-// Past those, eight at a time, that are the same as the one before them: the number of the next one to test.
-fn past_same(bytes: &[u8], at: usize, stride: usize, from: usize, count: usize) -> usize
-    requires { ⌜ (1 ≤ from) × (from ≤ count) × (count ≤ 1024) × ((k : ℕ) → k < count → at + stride * k + 32 ≤ length (now bytes)) ⌝ }
-    ensures { λ r. ⌜ (from ≤ r) × (r ≤ count) × Kept (now (bytes .entry)) at stride from r ⌝ }
+// The number of the first configuration, from one on, that may differ from the one before it: past those that are the same, eight at a
+// time. This is tried once in eight, whether the row begins with its number 0 or 1.
+fn past_eights(
+    bytes: &[u8],
+    at: usize,
+    stride: usize,
+    first: usize,
+    from: usize,
+    count: usize,
+) -> usize
+    requires { ⌜ (1 ≤ from) × (from ≤ count) × (count ≤ 1024) × (first ≤ 1) × ((k : ℕ) → k < count → at + stride * k + 32 ≤ length (now bytes)) ⌝ }
+    ensures { λ r. ⌜ (from ≤ r) × (r ≤ count) × StillValid (now (bytes .entry)) at stride from r ⌝ }
 {
+    if (from + first) % 8 != 3 {
+        return from;
+    }
     let mut k = from;
     while k + 8 <= count {
         if !same_block(bytes, at + stride * (k - 1), stride) {
@@ -191,38 +175,50 @@ fn past_same(bytes: &[u8], at: usize, stride: usize, from: usize, count: usize) 
     k
 }
 
-// Where the first run of configurations that are tested one by one ends: with the first of them, unless there are few.
-fn first_end(count: usize) -> usize
-    requires { ⌜ 1 ≤ count ⌝ }
-    ensures { λ r. ⌜ (1 ≤ r) × (r ≤ count) ⌝ }
+// The number of the first configuration, from one on, that differs from the one before it.
+fn past_same(
+    bytes: &[u8],
+    at: usize,
+    stride: usize,
+    first: usize,
+    from: usize,
+    count: usize,
+) -> usize
+    requires { ⌜ (1 ≤ from) × (from ≤ count) × (count ≤ 1024) × (first ≤ 1) × ((k : ℕ) → k < count → at + stride * k + 32 ≤ length (now bytes)) ⌝ }
+    ensures { λ r. ⌜ (from ≤ r) × (r ≤ count) × StillValid (now (bytes .entry)) at stride from r ⌝ }
 {
-    if count <= 8 { count } else { 1 }
-}
-
-// Where a later run ends.
-fn next_end(k: usize, count: usize) -> usize
-    requires { ⌜ (k ≤ count) × (count ≤ 1024) ⌝ }
-    ensures { λ r. ⌜ (k ≤ r) × (r ≤ count) × (k < count → k < r) ⌝ }
-{
-    if k + 8 < count { k + 8 } else { count }
+    let mut k = from;
+    while k < count {
+        if !same_again(bytes, at + stride * (k - 1), stride) {
+            return k;
+        }
+        k = past_eights(bytes, at, stride, first, k + 1, count);
+    }
+    k
 }
 
 // Whether so many configurations that stand a stride apart, from a place on, are valid. One that is the same as the one before it is
-// not tested again.
-pub fn all_valid(bytes: &[u8], at: usize, stride: usize, count: usize, n: usize) -> bool
-    requires { ⌜ (1 ≤ n) × (n ≤ 16) × (1 ≤ count) × (count ≤ 1024) × ((k : ℕ) → k < count → at + stride * k + 32 ≤ length (now bytes)) ⌝ }
+// not tested again. The first of them has number 0 or 1 in its row.
+pub fn all_valid(
+    bytes: &[u8],
+    at: usize,
+    stride: usize,
+    first: usize,
+    count: usize,
+    n: usize,
+) -> bool
+    requires { ⌜ (1 ≤ n) × (n ≤ 16) × (count ≤ 1024) × (first ≤ 1) × ((k : ℕ) → k < count → at + stride * k + 32 ≤ length (now bytes)) ⌝ }
     ensures { λ r. ⌜ r ≡ validTo n (now (bytes .entry)) at stride count ⌝ }
 {
     // Lent on, so that the compiler hands address and length over in registers.
     let bytes = &*bytes;
     let mut k = 0;
-    let mut end = first_end(count);
     while k < count {
-        if !run_valid(bytes, at, stride, k, end, n) {
+        let place = at + stride * k;
+        if !config_ok(&bytes[place..place + 32], n) {
             return false;
         }
-        k = past_same(bytes, at, stride, end, count);
-        end = next_end(k, count);
+        k = past_same(bytes, at, stride, first, k + 1, count);
     }
     true
 }
@@ -243,5 +239,5 @@ pub fn is_valid(config: &[u8], n: usize) -> bool
     if 16 < n {
         return false;
     }
-    all_valid(config, 0, TABLE_STRIDE, 1, n)
+    all_valid(config, 0, TABLE_STRIDE, 1, 1, n)
 }

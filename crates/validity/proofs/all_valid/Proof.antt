@@ -1,67 +1,85 @@
 use borrow.Author.Needs.{needs}
 use native.Mathlib.Omega.{arith}
+use native.Mathlib.Nat.{le-antisymm, add-sub-cancel-left}
 use mathlib.Core.Path.{_≡_, sym, ap, _∙_}
 use mathlib.Core.Bool.{true}
-use Prim.Native.Nat.{_-_, _≤_, _<_}
-use native.Mathlib.Nat.{le-antisymm}
+use Prim.Native.Nat.{_+_, _-_, _*_, _≤_}
+use lib.ListN.{length}
 use borrow.Author.Tests.{not-true, not-false}
-use Rattle.quorum.specs.Configurations.{validTo}
-use Rattle.validity.proofs.Same.{none-yet, fewer-fail}
+use Rattle.quorum.specs.Configurations.{validAt, validTo}
+use Rattle.validity.proofs.Same.{none-yet, one-more, one-fails}
 use Rattle.validity.proofs.all_valid.Statement.{statement}
 use Rattle.validity.proofs.all_valid.Tie as tie
 
 abbrev Inv-loop : tie.InvT-loop
-Inv-loop bytes at stride count n lent k₀ end₀ k end = (k ≤ end) × (end ≤ count) × (k < count → k < end) × (validTo n bytes at stride k ≡ true)
+Inv-loop bytes at stride first count n lent k₀ k = (k ≤ count) × (validTo n bytes at stride k ≡ true)
 
 abbrev μ-loop : tie.MeasureT-loop
-μ-loop bytes at stride count n lent k₀ end₀ k end = count - k
+μ-loop bytes at stride first count n lent k₀ k = count - k
 
--- past a run that is valid, more are tested than before it
-further : (c : tie.Else1 Inv-loop μ-loop) → let turn = c .before .before .before .loop in turn .k < turn .end
-further c = let test = c .before .before in test .before .loop .inv .2 (test .loop-test .taken)
-
-first-end-requires : tie.Need-first-end-requires Inv-loop μ-loop
-first-end-requires c κs = search needs
+-- the bytes of configuration k
+room : (c : tie.In-loop Inv-loop μ-loop) → let a = c .before .before .before .args in
+    a .at + a .stride * c .before .loop .k + 32 ≤ length (a .bytes .now)
+room c = c .before .before .before .pre .4 (c .before .loop .k) (c .loop-test .taken)
 
 loop-holds : tie.Need-loop-holds Inv-loop μ-loop
-loop-holds c =
-    let a = c .before .before .args in
-    (search needs, search needs, λ _. c .first-end .ensures .0, none-yet (a .n) (a .bytes .now) (a .at) (a .stride))
+loop-holds c = let a = c .before .args in (search needs, none-yet (a .n) (a .bytes .now) (a .at) (a .stride))
 
-run-valid-requires : tie.Need-run-valid-requires Inv-loop μ-loop
-run-valid-requires c κs =
-    let start = c .before .before .before .before in
-    ((search needs, search needs, search needs, λ k l. start .pre .4 k (omega arith)), c .before .loop .inv .3)
+mul-place : tie.Need-mul-place Inv-loop μ-loop
+mul-place c = let h = room c in search needs
+
+add-place : tie.Need-add-place Inv-loop μ-loop
+add-place c = let h = room c in search needs
+
+add-config-ok : tie.Need-add-config-ok Inv-loop μ-loop
+add-config-ok c = let h = room c in search needs
+
+sub-config-ok : tie.Need-sub-config-ok Inv-loop μ-loop
+sub-config-ok c = let h = room c in search needs
+
+part-config-ok-start : tie.Need-part-config-ok-start Inv-loop μ-loop
+part-config-ok-start c = let h = room c in search needs
+
+part-config-ok-end : tie.Need-part-config-ok-end Inv-loop μ-loop
+part-config-ok-end c = let h = room c in search needs
+
+config-ok-requires : tie.Need-config-ok-requires Inv-loop μ-loop
+config-ok-requires c κs = let h = room (c .before) in search needs
+
+-- what the test of configuration k says
+tested : (c : tie.After-config-ok Inv-loop μ-loop) → let turn = c .before .before .before in let a = turn .before .before .args in
+    c .config-ok .result ≡ validAt (a .n) (a .bytes .now) (a .at + a .stride * turn .loop .k)
+tested c = rw (add-sub-cancel-left) at (c .config-ok .ensures)
 
 returns : tie.Need-returns Inv-loop μ-loop
 returns c =
-    let turn = c .before .before .before .loop in
-    fewer-fail _ _ _ _ (turn .end) _ (turn .inv .1) (sym (c .before .run-valid .ensures) ∙ not-true _ (c .if1 .taken))
+    let test = c .before .before .before in
+    one-fails _ _ _ _ _ (test .before .loop .k) (test .loop-test .taken) (sym (tested (c .before)) ∙ not-true _ (c .if1 .taken))
+
+add-past-same : tie.Need-add-past-same Inv-loop μ-loop
+add-past-same c = search needs
 
 past-same-requires : tie.Need-past-same-requires Inv-loop μ-loop
 past-same-requires c κs =
-    let l = further c in
-    let start = c .before .before .before .before .before .before in
-    (omega arith, search needs, start .pre .3, start .pre .4)
-
-next-end-requires : tie.Need-next-end-requires Inv-loop μ-loop
-next-end-requires c κs = (c .past-same .ensures .1, search needs)
+    let test = c .before .before .before in
+    let start = test .before .before .before in
+    let l = test .loop-test .taken in
+    (search needs, omega arith, start .pre .2, start .pre .3, start .pre .4)
 
 loop-less : tie.Need-loop-less Inv-loop μ-loop
-loop-less c = let l = further (c .before .before) in let g = c .before .past-same .ensures in omega arith
+loop-less c = let l = c .before .before .before .before .loop-test .taken in let g = c .past-same .ensures in omega arith
 
 loop-again : tie.Need-loop-again Inv-loop μ-loop
 loop-again c =
-    let run = c .before .before in
-    let next = c .next-end .ensures in
-    let valid = sym (run .before .run-valid .ensures) ∙ not-false _ (run .if1 .left) in
-    (next .0, next .1, next .2, c .before .past-same .ensures .2 _ valid)
+    let turn = c .before .before .before .before .before .loop in
+    let next = c .past-same .ensures in
+    (next .1, next .2 _ (one-more _ _ _ _ (turn .k) (turn .inv .1) (sym (tested (c .before .before)) ∙ not-false _ (c .before .if1 .left))))
 
 returns-2 : tie.Need-returns-2 Inv-loop μ-loop
 returns-2 c =
-    let a = c .before .before .before .before .args in
+    let a = c .before .before .before .args in
     let kept = c .before .loop .inv in
-    sym (ap (validTo (a .n) (a .bytes .now) (a .at) (a .stride)) (le-antisymm (c .loop-test .left) (omega arith)) ∙ kept .3)
+    sym (ap (validTo (a .n) (a .bytes .now) (a .at) (a .stride)) (le-antisymm (c .loop-test .left) (kept .0)) ∙ kept .1)
 
 pub all-valid-spec : {M : Type 1} → statement M
 all-valid-spec =
@@ -69,12 +87,17 @@ all-valid-spec =
     (tie.spec
     Inv-loop
     μ-loop
-    first-end-requires
     loop-holds
-    run-valid-requires
+    mul-place
+    add-place
+    add-config-ok
+    sub-config-ok
+    part-config-ok-start
+    part-config-ok-end
+    config-ok-requires
     returns
+    add-past-same
     past-same-requires
-    next-end-requires
     loop-less
     loop-again
     returns-2)

@@ -1,67 +1,72 @@
 use borrow.Author.Needs.{needs}
 use native.Mathlib.Omega.{arith}
 use mathlib.Core.Path.{_≡_, sym, _∙_}
-use Prim.Native.Nat.{ℕ, _+_, _-_, _*_, _≤_, _<_}
+use Prim.Native.Nat.{_+_, _-_, _*_, _≤_}
 use lib.ListN.{length}
 use borrow.Author.Tests.{not-false}
-use Rattle.validity.specs.Pairs.{Kept}
-use Rattle.validity.proofs.Same.{stride-on, eight-more}
+use Rattle.validity.specs.Pairs.{StillValid}
+use Rattle.validity.proofs.Same.{stride-next, next-same}
 use Rattle.validity.proofs.past_same.Statement.{statement}
 use Rattle.validity.proofs.past_same.Tie as tie
 
 abbrev Inv-loop : tie.InvT-loop
-Inv-loop bytes at stride from count k₀ k = (from ≤ k) × (k ≤ count) × Kept bytes at stride from k
+Inv-loop bytes at stride first from count k₀ k = (from ≤ k) × (k ≤ count) × StillValid bytes at stride from k
 
 abbrev μ-loop : tie.MeasureT-loop
-μ-loop bytes at stride from count k₀ k = count - k
+μ-loop bytes at stride first from count k₀ k = count - k
 
--- the bytes of the one before the next, and of the eight from the next on
+-- the bytes of the next one
 room : (c : tie.In-loop Inv-loop μ-loop) → let a = c .before .before .before .args in
-    (i : ℕ) → i < c .before .loop .k + 8 → a .at + a .stride * i + 32 ≤ length (a .bytes .now)
-room c i l = c .before .before .before .pre .3 i (omega arith)
+    a .at + a .stride * c .before .loop .k + 32 ≤ length (a .bytes .now)
+room c = c .before .before .before .pre .4 (c .before .loop .k) (c .loop-test .taken)
 
--- there is one before the next
+-- there is one before it, a stride before it
 started : (c : tie.In-loop Inv-loop μ-loop) → c .before .loop .k ≡ 0 → ⊥
 started c e = omega arith
+
+before-it : (c : tie.In-loop Inv-loop μ-loop) → let a = c .before .before .before .args in let k = c .before .loop .k in
+    a .at + a .stride * (k - 1) + a .stride ≡ a .at + a .stride * k
+before-it c = let a = c .before .before .before .args in stride-next 0 (a .bytes .now) (a .at) (a .stride) (c .before .loop .k) (started c)
 
 loop-holds : tie.Need-loop-holds Inv-loop μ-loop
 loop-holds c = (search needs, search needs, λ n v. v)
 
-add-loop : tie.Need-add-loop Inv-loop μ-loop
-add-loop c = search needs
+sub-same-again : tie.Need-sub-same-again Inv-loop μ-loop
+sub-same-again c = search needs
 
-sub-same-block : tie.Need-sub-same-block Inv-loop μ-loop
-sub-same-block c = search needs
+mul-same-again : tie.Need-mul-same-again Inv-loop μ-loop
+mul-same-again c = let h = room c in let e = before-it c in search needs
 
-mul-same-block : tie.Need-mul-same-block Inv-loop μ-loop
-mul-same-block c = let h = room c (c .before .loop .k - 1) (omega arith) in search needs
+add-same-again : tie.Need-add-same-again Inv-loop μ-loop
+add-same-again c = let h = room c in let e = before-it c in search needs
 
-add-same-block : tie.Need-add-same-block Inv-loop μ-loop
-add-same-block c = let h = room c (c .before .loop .k - 1) (omega arith) in search needs
-
-same-block-requires : tie.Need-same-block-requires Inv-loop μ-loop
-same-block-requires c κs =
-    let a = c .before .before .before .args in
-    let k = c .before .loop .k in
-    (room c (k - 1) (omega arith), λ j l. rw (stride-on 0 (a .bytes .now) (a .at) (a .stride) k j (started c)) (room c (k + j) (omega arith)))
+same-again-requires : tie.Need-same-again-requires Inv-loop μ-loop
+same-again-requires c κs = let h = room c in let e = before-it c in omega arith
 
 returns : tie.Need-returns Inv-loop μ-loop
 returns c = c .before .before .before .loop .inv
 
-add-k : tie.Need-add-k Inv-loop μ-loop
-add-k c = search needs
+add-past-eights : tie.Need-add-past-eights Inv-loop μ-loop
+add-past-eights c = search needs
+
+past-eights-requires : tie.Need-past-eights-requires Inv-loop μ-loop
+past-eights-requires c κs =
+    let start = c .before .before .before .before .before in
+    let l = c .before .before .loop-test .taken in
+    (search needs, omega arith, start .pre .2, start .pre .3, start .pre .4)
 
 loop-less : tie.Need-loop-less Inv-loop μ-loop
-loop-less c = search needs
+loop-less c = let l = c .before .before .before .loop-test .taken in let g = c .past-eights .ensures in omega arith
 
 loop-again : tie.Need-loop-again Inv-loop μ-loop
 loop-again c =
-    let turn = c .before .before in
+    let turn = c .before .before .before in
     let a = turn .before .before .before .args in
-    let same = sym (c .before .same-block .ensures) ∙ not-false _ (c .if1 .left) in
+    let same = sym (c .before .before .same-again .ensures) ∙ not-false _ (c .before .if1 .left) in
     let k = turn .before .loop .k in
-    let kept = turn .before .loop .inv .2 in
-    (search needs, search needs, λ n v. eight-more n (a .bytes .now) (a .at) (a .stride) k (started turn) (room turn) same (kept n v))
+    let valid = turn .before .loop .inv .2 in
+    let next = c .past-eights .ensures in
+    (omega arith, next .1, λ n v. next .2 n (next-same n (a .bytes .now) (a .at) (a .stride) k (started turn) (room turn) same (valid n v)))
 
 returns-2 : tie.Need-returns-2 Inv-loop μ-loop
 returns-2 c = c .before .loop .inv
@@ -73,13 +78,13 @@ past-same-spec =
     Inv-loop
     μ-loop
     loop-holds
-    add-loop
-    sub-same-block
-    mul-same-block
-    add-same-block
-    same-block-requires
+    sub-same-again
+    mul-same-again
+    add-same-again
+    same-again-requires
     returns
-    add-k
+    add-past-eights
+    past-eights-requires
     loop-less
     loop-again
     returns-2)
