@@ -175,7 +175,7 @@ fn past_eights(
     k
 }
 
-// The number of the first configuration, from one on, that differs from the one before it.
+// The number of the first configuration, from one on, that differs from the one before it; the count where none does.
 fn past_same(
     bytes: &[u8],
     at: usize,
