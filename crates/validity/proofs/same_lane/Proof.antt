@@ -1,3 +1,4 @@
+use native.Mathlib.Omega.{arith}
 use borrow.Author.Needs.{needs}
 use mathlib.Core.Path.{_≡_, refl, sym}
 use Prim.Native.Nat.{_+_, _-_, _*_, _≤_, _<_}
@@ -18,7 +19,7 @@ abbrev μ-loop : tie.MeasureT-loop
 -- the byte so many strides on
 room : (c : tie.In-loop Inv-loop μ-loop) → let a = c .before .before .args in
     a .at + a .stride + a .stride * c .before .loop .j < length (a .bytes .now)
-room c = c .before .before .pre .1 (c .before .loop .j) (c .loop-test .taken)
+room c = c .before .before .pre .1 (c .before .loop .j) (omega arith)
 
 loop-holds : tie.Need-loop-holds Inv-loop μ-loop
 loop-holds c = (search needs, sym (all-start _))
