@@ -2,10 +2,11 @@
 -- bytes, from a lay on, call by call.
 use mathlib.Core.Path.{_≡_}
 use mathlib.Core.List.{List, [], _∷_, _++_}
+use mathlib.Core.Option.{Option, none, some}
 use Prim.Native.Nat.{ℕ}
 use lib.ListN.{replicate}
 use Rattle.rules.specs.Calls.{Call, lay, openRead, openWrite, openChange, poll, put, commit, abandon, link}
-use Rattle.rules.specs.Reply.{reply, after}
+use Rattle.rules.specs.Lists.{replies}
 use Rattle.rules.specs.declared.Reply.{Reply}
 
 -- calls after the lay, and what the last of them gets: its number and three figures
@@ -110,23 +111,20 @@ table =
     ∷ []
 
 -- ---- the replies
--- the reply to the last of a list of calls
-unfoldable pub lastReply : List ℕ → Call → List Call → Reply
-lastReply t c [] = reply t c
-lastReply t c (d ∷ calls) = lastReply (after t c) d calls
+unfoldable pub lastOf : List Reply → Option Reply
+lastOf [] = none
+lastOf (r ∷ []) = some r
+lastOf (r ∷ (s ∷ rest)) = lastOf (s ∷ rest)
 
 -- "Three stations, one item, start 500, pair sets", laid over 224 bytes that are all 7
-abbrev pub replyOf : Row → Reply
-replyOf r = lastReply (replicate 224 7) (lay 3 1 500 pairs) (r .calls)
+abbrev pub got : List Row → List (Option Reply)
+got [] = []
+got (r ∷ rows) = lastOf (replies (replicate 224 7) (lay 3 1 500 pairs ∷ r .calls)) ∷ got rows
 
-abbrev pub replies : List Row → List Reply
-replies [] = []
-replies (r ∷ rows) = replyOf r ∷ replies rows
-
-abbrev pub expected : List Row → List Reply
+abbrev pub expected : List Row → List (Option Reply)
 expected [] = []
-expected (r ∷ rows) = r .gets ∷ expected rows
+expected (r ∷ rows) = some (r .gets) ∷ expected rows
 
 -- the theorem: each row gets the reply that it names
 abbrev pub Cases : Type 0
-Cases = replies table ≡ expected table
+Cases = got table ≡ expected table

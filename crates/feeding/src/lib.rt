@@ -2,10 +2,14 @@
 ghost use mathlib.Core.Path.{_≡_};
 ghost use mathlib.Core.Logic.{_⊎_};
 ghost use Prim.Native.Nat.{_+_, _≤_, _<_};
-ghost use lib.ListN.{length, take};
-ghost use Rattle.layout.specs.Updates.{over};
-ghost use Rattle.runs.specs.Feed.{printedLast};
-ghost use Rattle.feeding.specs.Feeding.{Takes};
+ghost use lib.ListN.{length};
+ghost use Rattle.replies.specs.ReplyLine.{replyLineSize};
+ghost use Rattle.layout.specs.Layout.{largest};
+ghost use Rattle.lines.specs.Splitting.{endFrom};
+ghost use Rattle.feeding.specs.Buffers.{Fits, HasRoom, AnswersLine, Takes, Ends};
+use lines::find_end;
+use lines::keep;
+use replies::REPLY_LINE_SIZE;
 
 // How far the piece is taken, and the lengths in use: of the line so far, of the table, of the output.
 pub struct Fed {
@@ -15,26 +19,63 @@ pub struct Fed {
     pub out: usize,
 }
 
-// Takes the piece up to its next line end, which answers the line, or to its end.
-fn step(piece: &[u8], table: &mut [u8], line: &mut [u8], out: &mut [u8], s: Fed) -> Fed
-    requires { ⌜ (length (now table) ≡ 28728) × (s .used ≤ 28728) × (87 ≤ length (now line)) × (s .len ≤ 87) × (s .out + 53 ≤ length (now out)) ⌝ }
-    ensures { λ r. ⌜ Takes (now (piece .entry)) (now (table .entry)) (now (line .entry)) (now (out .entry)) s (now (table .exit)) (now (line .exit)) (now (out .exit)) r ⌝ }
-    ensures { λ r. ⌜ (s .at < length (now (piece .entry)) → s .at < r .at) ⌝ }
+// Answers a line, and goes on from a place of the piece with no line so far.
+fn answer_line(bytes: &[u8], table: &mut [u8], out: &mut [u8], s: Fed, at: usize) -> Fed
+    requires { ⌜ (length (now table) ≡ largest) × (s .used ≤ largest) × HasRoom (now out) s ⌝ }
+    ensures { λ r. ⌜ AnswersLine (now (bytes .entry)) (now (table .entry)) (now (out .entry)) s (now (table .exit)) (now (out .exit)) r ⌝ }
+    ensures { λ r. ⌜ r .at ≡ at ⌝ }
 {
-    let t = lines::take_line(piece, s.at, line, s.len);
-    let at = t.at;
-    let len = t.len;
-    if t.ended {
-        let used = session::answer(&line[..len], table, s.used, out, s.out);
-        return Fed {
-            at,
-            len: 0,
-            used,
-            out: s.out + 53,
-        };
-    }
+    let used = session::answer(bytes, table, s.used, out, s.out);
     Fed {
         at,
+        len: 0,
+        used,
+        out: s.out + REPLY_LINE_SIZE,
+    }
+}
+
+// Answers the line whose end stands at a place of the piece: one that lies whole in the piece where it stands, and one of which a
+// part is kept behind that part.
+fn take_line(
+    piece: &[u8],
+    end: usize,
+    table: &mut [u8],
+    line: &mut [u8],
+    out: &mut [u8],
+    s: Fed,
+) -> Fed
+    requires { ⌜ Fits (now table) (now line) (now out) s × HasRoom (now out) s ⌝ }
+    requires { ⌜ (end ≡ endFrom (now piece) (s .at)) × (end < length (now piece)) ⌝ }
+    ensures { λ r.
+        ⌜ Takes (now (piece .entry)) (now (table .entry)) (now (line .entry)) (now (out .entry)) s
+        (now (table .exit)) (now (line .exit)) (now (out .exit)) r ⌝ }
+    ensures { λ r. ⌜ s .at < r .at ⌝ }
+{
+    let at = s.at;
+    if s.len == 0 {
+        return answer_line(&piece[at..end], table, out, s, end + 1);
+    }
+    let len = keep(&piece[at..end], line, s.len);
+    answer_line(&line[..len], table, out, s, end + 1)
+}
+
+// Takes the piece up to its next line end, which answers the line, or to its end, which cuts it.
+fn step(piece: &[u8], table: &mut [u8], line: &mut [u8], out: &mut [u8], s: Fed) -> Fed
+    requires { ⌜ Fits (now table) (now line) (now out) s × HasRoom (now out) s ⌝ }
+    requires { ⌜ s .at < length (now piece) ⌝ }
+    ensures { λ r.
+        ⌜ Takes (now (piece .entry)) (now (table .entry)) (now (line .entry)) (now (out .entry)) s
+        (now (table .exit)) (now (line .exit)) (now (out .exit)) r ⌝ }
+    ensures { λ r. ⌜ s .at < r .at ⌝ }
+{
+    let at = s.at;
+    let end = find_end(piece, at);
+    if end < piece.len() {
+        return take_line(piece, end, table, line, out, s);
+    }
+    let len = keep(&piece[at..end], line, s.len);
+    Fed {
+        at: end,
         len,
         used: s.used,
         out: s.out,
@@ -43,13 +84,15 @@ fn step(piece: &[u8], table: &mut [u8], line: &mut [u8], out: &mut [u8], s: Fed)
 
 // Feeds a piece of input from a place on, as far as the output has room for another reply line.
 pub fn feed(piece: &[u8], table: &mut [u8], line: &mut [u8], out: &mut [u8], from: Fed) -> Fed
-    requires { ⌜ (length (now table) ≡ 28728) × (from .used ≤ 28728) × (87 ≤ length (now line)) × (from .len ≤ 87) × (from .out ≤ length (now out)) ⌝ }
-    ensures { λ r. ⌜ Takes (now (piece .entry)) (now (table .entry)) (now (line .entry)) (now (out .entry)) from (now (table .exit)) (now (line .exit)) (now (out .exit)) r ⌝ }
-    ensures { λ r. ⌜ (length (now (piece .entry)) ≤ r .at) ⊎ (length (now (out .entry)) < r .out + 53) ⌝ }
+    requires { ⌜ Fits (now table) (now line) (now out) from ⌝ }
+    ensures { λ r.
+        ⌜ Takes (now (piece .entry)) (now (table .entry)) (now (line .entry)) (now (out .entry)) from
+        (now (table .exit)) (now (line .exit)) (now (out .exit)) r ⌝ }
+    ensures { λ r. ⌜ (length (now (piece .entry)) ≤ r .at) ⊎ (length (now (out .entry)) < r .out + replyLineSize) ⌝ }
 {
     let mut s = from;
     while s.at < piece.len() {
-        if out.len() - s.out < 53 {
+        if out.len() - s.out < REPLY_LINE_SIZE {
             return s;
         }
         s = step(piece, table, line, out, s);
@@ -57,16 +100,14 @@ pub fn feed(piece: &[u8], table: &mut [u8], line: &mut [u8], out: &mut [u8], fro
     s
 }
 
-// The end of input: a line so far of one byte or more is answered. Returns the length of the output.
-pub fn finish(table: &mut [u8], line: &[u8], out: &mut [u8], s: Fed) -> usize
-    requires { ⌜ (length (now table) ≡ 28728) × (s .used ≤ 28728) × (s .len ≤ length (now line)) × (s .out + 53 ≤ length (now out)) ⌝ }
-    ensures { λ r. ⌜ r ≡ s .out + length (printedLast (take (s .used) (now (table .entry))) (take (s .len) (now (line .entry)))) ⌝ }
-    ensures { λ _. ⌜ now (out .exit) ≡ over (now (out .entry)) (s .out) (printedLast (take (s .used) (now (table .entry))) (take (s .len) (now (line .entry)))) ⌝ }
+// The end of input: a line so far of one byte or more is answered.
+pub fn finish(table: &mut [u8], line: &[u8], out: &mut [u8], s: Fed) -> Fed
+    requires { ⌜ Fits (now table) (now line) (now out) s × HasRoom (now out) s ⌝ }
+    ensures { λ r. ⌜ Ends (now (table .entry)) (now (line .entry)) (now (out .entry)) s (now (table .exit)) (now (out .exit)) r ⌝ }
 {
     let len = s.len;
     if len == 0 {
-        return s.out;
+        return s;
     }
-    session::answer(&line[..len], table, s.used, out, s.out);
-    s.out + 53
+    answer_line(&line[..len], table, out, s, s.at)
 }

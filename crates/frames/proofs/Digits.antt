@@ -1,15 +1,16 @@
 -- Hexadecimal digits and bytes: what is known of a digit, and both ways back.
-use mathlib.Core.Path.{_≡_, refl}
-use mathlib.Core.Bool.{Bool, true, false, cond, _&&_}
+use mathlib.Core.Path.{_≡_, refl, _∙_}
+use mathlib.Core.Bool.{Bool, true, false, cond, _&&_, _||_, and-false}
 use mathlib.Core.List.{List, [], _∷_}
-use Prim.Native.Nat.{ℕ, _+_, _-_, _*_, _/_, _%_, _≤_, _<_}
+use Prim.Native.Nat.{ℕ, zero, suc, _+_, _-_, _*_, _/_, _%_, _≤_, _<_}
 use native.Mathlib.Omega.{arith}
 use lib.Dec.{ltb, leb}
 use lib.ListN.{length}
 use borrow.Author.Tests.{le-leb, lt-leb, lt-ltb, le-ltb, leb-true, ltb-true, ltb-false}
-use Rattle.quorum.specs.Bytes.{AreBytes}
-use Rattle.quorum.proofs.Tests.{by-cases, and-left, and-right, or-cases, or-right}
-use Rattle.frames.specs.Hex.{isDigit, allDigits, valueOf, valueOr, byteOf, bytesIn, digitOf, hexOf}
+use Rattle.basics.specs.Bytes.{AreBytes}
+use Rattle.basics.proofs.Tests.{by-cases, clash, and-left, and-right, or-cases, or-right}
+use Rattle.frames.specs.Hex.{isDigit, allDigits, valueOf, byteOf, bytesIn, digitOf, hexOf}
+use Rattle.frames.specs.Reading.{valueOr, ofValues, byteOr}
 
 -- ---- one digit: a number or a letter
 pub digit-cases : {A : Type 0} (c : ℕ) → isDigit c ≡ true → (48 ≤ c → c ≤ 57 → A) → (65 ≤ c → c ≤ 70 → A) → A
@@ -82,8 +83,10 @@ byte-lt high low =
 
 pub byte-halves : (b : ℕ) → b < 256 → byteOf (digitOf (b / 16)) (digitOf (b % 16)) ≡ b
 byte-halves b h =
-    rw (byte-digits (digitOf (b / 16)) (digitOf (b % 16)) (digit-is-digit (b / 16) (omega arith)) (digit-is-digit (b % 16) (omega arith)), value-of-digit (b / 16) (omega arith), value-of-digit (b % 16) (omega arith))
-    (omega arith)
+    let high = digit-is-digit (b / 16) (omega arith) in
+    let low = digit-is-digit (b % 16) (omega arith) in
+    byte-digits (digitOf (b / 16)) (digitOf (b % 16)) high low
+    ∙ rw (value-of-digit (b / 16) (omega arith), value-of-digit (b % 16) (omega arith)) (omega arith)
 
 pub bytes-in : (line : List ℕ) → AreBytes (bytesIn line)
 unfolding bytesIn
@@ -113,17 +116,85 @@ shown-again (a ∷ b ∷ rest) n e d =
     let v : (16 * valueOf a + valueOf b) % 16 ≡ valueOf b = omega (arith, value-lt b r) in
     rw (byte-digits a b p r, u, v, digit-of-value a p, digit-of-value b r, shown-again rest (n - 1) (omega arith) (and-right (isDigit b) (allDigits rest) q))
 
--- ---- a character that is a digit or none
-pub value-or : (c : ℕ) → isDigit c ≡ true → valueOr c ≡ valueOf c
+-- ---- a character that is a digit or none, told by its value
+value-or : (c : ℕ) → isDigit c ≡ true → valueOr c ≡ valueOf c
 unfolding valueOr
 value-or c e = rw e
 
-pub no-value : (c : ℕ) → isDigit c ≡ false → valueOr c ≡ 255
+no-value : (c : ℕ) → isDigit c ≡ false → valueOr c ≡ 255
 unfolding valueOr
 no-value c e = rw e
 
--- the value by the bits of the character
-pub value-bits : (c : ℕ) → isDigit c ≡ true → valueOf c ≡ c % 16 + 9 * (c / 64)
-value-bits c e =
-    digit-cases c e (λ a b. rw (value-number c b) (omega arith))
-    (λ a b. let l : 57 < c = omega arith in rw (value-letter c l) (omega arith))
+-- by whether it is a digit
+by-digit : {A : Type 0} (c : ℕ) → (isDigit c ≡ true → A) → (isDigit c ≡ false → A) → A
+by-digit {A} c f g = by-cases (λ (b : Bool). isDigit c ≡ b → A) (isDigit c) (λ _ e. f e) (λ _ e. g e) refl
+
+small-digit : (c : ℕ) → valueOr c ≤ 15 → isDigit c ≡ true
+small-digit c h = by-digit c (λ e. e) (λ e. absurd (omega (arith, no-value c e)))
+
+large-none : (c : ℕ) → 15 < valueOr c → isDigit c ≡ false
+large-none c h = by-digit c (λ e. absurd (omega (arith, value-or c e, value-lt c e))) (λ e. e)
+
+-- ---- two characters: a byte, or none
+module _ (high low : ℕ) where
+  both : isDigit high ≡ true → isDigit low ≡ true → byteOr high low ≡ byteOf high low
+  both p q =
+      let h : valueOr high ≤ 15 = rw (value-or high p) (omega (arith, value-lt high p)) in
+      let l : valueOr low ≤ 15 = rw (value-or low q) (omega (arith, value-lt low q)) in
+      rw (le-ltb 15 (valueOr high) h, le-ltb 15 (valueOr low) l, value-or high p, value-or low q, byte-digits high low p q)
+
+  one-none : (isDigit high && isDigit low) ≡ false → byteOr high low ≡ 256
+  one-none e =
+      let some-large : (ltb 15 (valueOr high) || ltb 15 (valueOr low)) ≡ true =
+      by-digit high
+      (λ p. by-digit low (λ q. clash (rw (p, q)) e) (λ q. or-right (ltb 15 (valueOr high)) (ltb 15 (valueOr low)) (rw (no-value low q))))
+      (λ p. rw (no-value high p))
+      in
+      rw some-large
+
+  pub from-values : {h l r : ℕ} → h ≡ valueOr high → l ≡ valueOr low → r ≡ ofValues h l → r ≡ byteOr high low
+  from-values p q e = rw (← p, ← q) e
+
+  -- what is below 256 is the byte of two digits
+  pub small-byte : byteOr high low ≤ 255 → (isDigit high ≡ true) × (isDigit low ≡ true) × (byteOr high low ≡ byteOf high low)
+  small-byte h =
+      by-digit high
+      (λ p. by-digit low (λ q. (p, q, both p q)) (λ q. absurd (omega (arith, one-none (rw q (and-false (isDigit high)))))))
+      (λ p. absurd (omega (arith, one-none (rw p))))
+
+  pub large-byte : 255 < byteOr high low → (isDigit high && isDigit low) ≡ false
+  large-byte h =
+      by-digit high
+      (λ p. by-digit low (λ q. absurd (omega (arith, both p q, byte-lt high low))) (λ q. rw q (and-false (isDigit high))))
+      (λ p. rw p)
+
+  pub byte-of-none : 255 < byteOr high low → byteOf high low ≡ 0
+  unfolding byteOf
+  byte-of-none h = rw (large-byte h)
+
+-- ---- a character that is none of so many from a place on, besides what else is known of it
+abbrev pub Besides : Type 0 → ℕ → ℕ → ℕ → Type 0
+Besides A c from zero = A
+Besides A c from (suc k) = Besides A c from k × (c ≡ from + k → ⊥)
+
+module _ (A : Type 0) (c from : ℕ) where
+  beside : (k : ℕ) → Besides A c from k → A
+  beside zero n = n
+  beside (suc k) n = beside k (n .0)
+
+  not-within : (k : ℕ) → Besides A c from k → from ≤ c → c < from + k → ⊥
+  not-within zero n a b = omega arith
+  not-within (suc k) n a b = let other = n .1 in not-within k (n .0) a (omega arith)
+
+-- what is no number and no letter is no digit
+abbrev pub NoNumber : ℕ → Type 0
+NoNumber c = Besides (Unit {0}) c 48 10
+
+pub no-digit : (c : ℕ) → Besides (NoNumber c) c 65 6 → valueOr c ≡ 255
+no-digit c n =
+    by-digit c
+    (λ e.
+    absurd
+    (digit-cases c e (λ a b. not-within (Unit {0}) c 48 10 (beside (NoNumber c) c 65 6 n) a (omega arith))
+    (λ a b. not-within (NoNumber c) c 65 6 n a (omega arith))))
+    (λ e. no-value c e)

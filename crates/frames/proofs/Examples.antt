@@ -4,10 +4,11 @@ use mathlib.Core.List.{List, [], _∷_, _++_}
 use mathlib.Core.Option.{Option, none, some}
 use Prim.Native.Nat.{ℕ}
 use lib.ListN.{replicate}
-use Rattle.quorum.specs.Bytes.{littleEndian}
+use Rattle.basics.specs.Bytes.{littleEndian}
 use Rattle.rules.specs.Calls.{Call, lay, openRead, poll, put, commit, reach}
 use Rattle.frames.specs.Hex.{isDigit, allDigits, valueOf, byteOf, bytesIn}
-use Rattle.frames.specs.Frame.{frameLength, callByte, isFrame, callsOf, callOf}
+use Rattle.dispatch.specs.Dispatch.{frameLength, callsOf, callAt}
+use Rattle.frames.specs.Frame.{callByte, isFrame, callOf}
 use Rattle.frames.proofs.Text.{chars, text}
 
 -- "For three stations, one item, the pair sets 0003, 0005, 0006 on both sides and value 500, the lay frame is .."
@@ -19,7 +20,7 @@ pairs = 3 ∷ 0 ∷ 5 ∷ 0 ∷ 6 ∷ 0 ∷ replicate 10 0
 
 calls : callOf layLine ∷ callOf (text "0200") ∷ callOf (text "0503") ∷ callOf (text "07") ∷ callOf (text "060A02") ∷ callOf (text "0A1F") ∷ []
     ≡ some (lay 3 1 500 (pairs ++ pairs)) ∷ some (openRead 0) ∷ some (poll 3) ∷ some commit ∷ some (put 10 2) ∷ some (reach 31) ∷ []
-unfolding text chars layLine pairs littleEndian isDigit allDigits valueOf byteOf bytesIn frameLength callByte isFrame callsOf callOf
+unfolding text chars layLine pairs littleEndian isDigit allDigits valueOf byteOf bytesIn frameLength callByte isFrame callsOf callAt callOf
 calls = refl
 
 -- lines that are no frames, with the call byte that is shown: empty, odd, lower case, a space, a carriage return, too short, too

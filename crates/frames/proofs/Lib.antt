@@ -1,8 +1,6 @@
-pub mod Table
 pub mod Digits
-pub mod Framed
+pub mod FrameLines
 pub mod Reading
-pub mod Values
-pub mod Framing
+pub mod CallFrames
 pub mod Text
 mod Examples

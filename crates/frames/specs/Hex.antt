@@ -18,10 +18,6 @@ allDigits (c ∷ rest) = isDigit c && allDigits rest
 unfoldable pub valueOf : ℕ → ℕ
 valueOf c = cond (leb c 57) (c - 48) (c - 55)
 
--- the value of a digit, and 255 for any other character: what the code computes
-unfoldable pub valueOr : ℕ → ℕ
-valueOr c = cond (isDigit c) (valueOf c) 255
-
 -- the byte of two digits; 00 if one of them is none
 unfoldable pub byteOf : ℕ → ℕ → ℕ
 byteOf high low = cond (isDigit high && isDigit low) (16 * valueOf high + valueOf low) 0

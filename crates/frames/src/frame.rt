@@ -1,31 +1,20 @@
 // Frames: a line is read as one, or is none.
 ghost use mathlib.Core.Path.{_≡_};
-ghost use Prim.Native.Nat.{_+_, _≤_, _<_};
-ghost use lib.ListN.{length, replicate};
-ghost use Rattle.quorum.specs.Bytes.{number};
-ghost use Rattle.frames.specs.Frame.{frameLength, callByte};
-ghost use Rattle.frames.specs.Reading.{frameIn};
-use crate::hex;
+ghost use mathlib.Core.Bool.{true};
+ghost use Prim.Native.Nat.{_*_, _≤_};
+ghost use lib.ListN.{length};
+ghost use Rattle.frames.specs.Hex.{allDigits, bytesIn};
+ghost use Rattle.frames.specs.Frame.{callByte, argumentsIn, isFrame};
+ghost use Rattle.frames.specs.Reading.{mostArguments, codeIn, Leads};
+use crate::hex::byte_of_values;
+use crate::hex::digit_value;
+use dispatch::frame_length;
 
-// The code of a frame and its bytes, with zeros behind; code 00 of a line that is none.
-pub struct Frame {
-    pub code: u8,
-    pub bytes: [u8; 43],
-}
+// The bytes of a buffer for the arguments of any frame.
+pub const MOST_ARGUMENTS: usize = 42;
 
-// "Lengths in bytes by code, kept as a table"; code 00 has no frame.
-const LENGTHS: [u8; 11] = [0, 43, 2, 10, 34, 2, 3, 1, 1, 3, 2];
-
-// The length of a code's frames; 0 if it has none.
-pub fn frame_length(code: u8) -> usize
-    ensures { λ r. ⌜ r ≡ frameLength code ⌝ }
-{
-    if code < 11 {
-        LENGTHS[code as usize] as usize
-    } else {
-        0
-    }
-}
+// The code of a line that is no frame.
+const NO_CODE: u8 = 0;
 
 // The byte of the two digits that lead the line; 00 if none do.
 pub fn call_byte(line: &[u8]) -> u8
@@ -34,64 +23,44 @@ pub fn call_byte(line: &[u8]) -> u8
     if line.len() < 2 {
         return 0;
     }
-    hex::byte_of(line[0], line[1])
-}
-
-fn no_frame() -> Frame
-    ensures { λ r. ⌜ (r .code ≡ 0) × (r .bytes ≡ replicate 43 0) ⌝ }
-{
-    Frame {
-        code: 0,
-        bytes: [0u8; 43],
+    let byte = byte_of_values(digit_value(line[0]), digit_value(line[1]));
+    if 255 < byte {
+        return 0;
     }
+    byte as u8
 }
 
-// The frame in a line.
-pub fn read_frame(line: &[u8]) -> Frame
-    ensures { λ r. ⌜ r ≡ frameIn (now (line .entry)) ⌝ }
+// Reads n bytes from as many pairs of digits; false if a character is none.
+fn read_bytes(text: &[u8], n: usize, bytes: &mut [u8]) -> bool
+    requires { ⌜ (length (now text) ≡ 2 * n) × (n ≤ length (now bytes)) ⌝ }
+    ensures { λ r. ⌜ r ≡ allDigits (now (text .entry)) ⌝ }
+    ensures { λ r. ⌜ (r ≡ true → Leads (bytesIn (now (text .entry))) (now (bytes .exit))) ⌝ }
 {
-    let code = call_byte(line);
-    let n = frame_length(code);
+    for k in 0..n {
+        let byte = byte_of_values(digit_value(text[2 * k]), digit_value(text[2 * k + 1]));
+        if 255 < byte {
+            return false;
+        }
+        bytes[k] = byte as u8;
+    }
+    true
+}
+
+// Reads the frame in a line, whose call byte is given: its arguments lead the buffer, and its code is returned; 00 of a line that is none.
+pub fn read_frame(line: &[u8], call: u8, arguments: &mut [u8]) -> u8
+    requires { ⌜ (call ≡ callByte (now line)) × (mostArguments ≤ length (now arguments)) ⌝ }
+    ensures { λ r. ⌜ r ≡ codeIn (now (line .entry)) ⌝ }
+    ensures { λ _. ⌜ (isFrame (now (line .entry)) ≡ true → Leads (argumentsIn (now (line .entry))) (now (arguments .exit))) ⌝ }
+{
+    let n = frame_length(call);
     if n == 0 {
-        return no_frame();
+        return NO_CODE;
     }
     if line.len() != 2 * n {
-        return no_frame();
+        return NO_CODE;
     }
-    let mut bytes = [0u8; 43];
-    bytes[0] = code;
-    let mut ok = true;
-    for k in 1..n {
-        let high = line[2 * k];
-        let low = line[2 * k + 1];
-        ok = ok & hex::is_digit(high) & hex::is_digit(low);
-        bytes[k] = hex::byte_of(high, low);
+    if !read_bytes(&line[2..], n - 1, arguments) {
+        return NO_CODE;
     }
-    if ok {
-        Frame { code, bytes }
-    } else {
-        no_frame()
-    }
-}
-
-// The value in eight bytes of a frame, least significant byte first.
-pub fn value_at(bytes: &[u8], at: usize) -> u64
-    requires { ⌜ at + 8 ≤ length (now bytes) ⌝ }
-    ensures { λ r. ⌜ r ≡ number (now (bytes .entry)) at 8 ⌝ }
-{
-    let mut value: u64 = 0;
-    let mut k: usize = 8;
-    while 0 < k {
-        k = k - 1;
-        value = bytes[at + k] as u64 + 256 * value;
-    }
-    value
-}
-
-// An argument of one byte.
-pub fn byte_at(bytes: &[u8], at: usize) -> u64
-    requires { ⌜ at < length (now bytes) ⌝ }
-    ensures { λ r. ⌜ r ≡ number (now (bytes .entry)) at 1 ⌝ }
-{
-    bytes[at] as u64
+    call
 }

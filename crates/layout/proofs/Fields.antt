@@ -9,12 +9,16 @@ use lib.Dec.{leb}
 use lib.ListN.{length, replicate, length-append}
 use lib.Seq.{take-all}
 use borrow.Author.Tests.{leb-true, le-leb}
-use Rattle.quorum.specs.Bytes.{part, littleEndian, number, AreBytes}
-use Rattle.quorum.proofs.Tests.{or-cases, or-left, or-right}
-use Rattle.layout.specs.Layout.{headSize, stationsAt, itemsAt, offAt, kindAt, itemAt, polledAt, dataPutsAt, configPutsAt, spareAt, valueAt, targetAt, copySize, copyVersionAt, copyValueAt, copyGenerationAt, copyConfigAt, configSize, address, tableLength}
+use Rattle.basics.specs.Bytes.{part, littleEndian, number, AreBytes}
+use Rattle.basics.proofs.Tests.{or-cases, or-left, or-right}
+use Rattle.layout.specs.Layout.{headSize, stationsAt, itemsAt, offAt, kindAt, itemAt, polledAt, dataPutsAt, configPutsAt, spareAt, valueAt}
+use Rattle.layout.specs.Layout.{targetAt}
+use Rattle.layout.specs.Layout.{copySize, copyVersionAt, copyValueAt, copyGenerationAt, copyConfigAt, configSize, address, tableLength}
 use Rattle.layout.specs.Fields.{Copy, Kind, kindOf, Round, stations, items, offSet, roundOf, copyFrom, copyOf}
+use Rattle.layout.specs.Rounds.{withPolled, withPuts, opened}
 use Rattle.layout.specs.Updates.{bytesOf, over, setOff, setPolled, setPuts, setRound, putData, putConfig, copyBytes}
-use Rattle.layout.proofs.Parts.{part-left, part-right, length-over, part-inside, part-whole, part-before, part-after, length-bytes, read-bytes, bytes-append, bytes-of, bytes-zeros, bytes-over}
+use Rattle.layout.proofs.Parts.{part-left, part-right, length-over, part-inside, part-whole, part-before, part-after}
+use Rattle.layout.proofs.Parts.{length-bytes, read-bytes, bytes-append, bytes-of, bytes-zeros, bytes-over}
 
 -- ---- u is t but for some bytes
 -- the k bytes from b on lie outside the bytes from a up to e
@@ -113,35 +117,6 @@ address-head n i s = omega arith
 
 pub head-copies : {t u : List ℕ} → HeadOnly t u → (i s : ℕ) → copyOf u i s ≡ copyOf t i s
 head-copies {t} {u} f i s = rw (head-stations f) (head-copy f (address (stations t) i s) (address-head (stations t) i s))
-
--- ---- the round, changed in its sets, or opened anew
-abbrev pub withPolled : Round → ℕ → Round
-withPolled r polled =
-    record {
-      kind = r .kind;
-      item = r .item;
-      polled = polled;
-      dataPuts = r .dataPuts;
-      configPuts = r .configPuts;
-      value = r .value;
-      target = r .target;
-    }
-
-abbrev pub withPuts : Round → ℕ → ℕ → Round
-withPuts r dataPuts configPuts =
-    record {
-      kind = r .kind;
-      item = r .item;
-      polled = r .polled;
-      dataPuts = dataPuts;
-      configPuts = configPuts;
-      value = r .value;
-      target = r .target;
-    }
-
-abbrev pub opened : Kind → ℕ → ℕ → List ℕ → Round
-opened kind item value target =
-    record { kind = kind; item = item; polled = 0; dataPuts = 0; configPuts = 0; value = value; target = target }
 
 -- ---- a number and what follows it, written at a place
 module _ (t : List ℕ) (a k x : ℕ) (r : List ℕ) (fits : a + (k + length r) ≤ length t) where
@@ -300,7 +275,8 @@ module _ (t : List ℕ) (bytes : AreBytes t) where
 
   pub data-bytes : (at version value : ℕ) → AreBytes (putData t at version value)
   unfolding putData
-  data-bytes at x y = bytes-over t (at + copyVersionAt) (bytesOf 8 x ++ bytesOf 8 y) bytes (bytes-append (bytesOf 8 x) (bytesOf 8 y) (bytes-of 8 x) (bytes-of 8 y))
+  data-bytes at x y =
+      bytes-over t (at + copyVersionAt) (bytesOf 8 x ++ bytesOf 8 y) bytes (bytes-append (bytesOf 8 x) (bytesOf 8 y) (bytes-of 8 x) (bytes-of 8 y))
 
   pub config-bytes : (at generation : ℕ) (config : List ℕ) → AreBytes config → AreBytes (putConfig t at generation config)
   unfolding putConfig
@@ -324,6 +300,11 @@ address-order n i s k h = omega arith
 pub address-later : (n i j s k : ℕ) → i < j → s ≤ n → address n i s ≤ address n j k
 unfolding address
 address-later n i j s k h l = omega (arith, mul-le-mul-right n h)
+
+-- and all of them in the table
+pub address-table : (n m i : ℕ) → i < m → address n i n ≤ tableLength n m
+unfolding address tableLength
+address-table n m i h = omega (arith, mul-le-mul-right n h)
 
 pub table-head : (n m : ℕ) → headSize ≤ tableLength n m
 unfolding tableLength
@@ -360,7 +341,8 @@ module _ (t : List ℕ) (at : ℕ) (fits : at + copySize ≤ length t) where
         λ i. record {
           version = data-first hx i;
           value = (ap littleEndian data-rest ∙ read-bytes 8 value hy) i;
-          generation = number-kept f (at + copyGenerationAt) 8 (outside-after at (at + copyGenerationAt) (at + copyGenerationAt) 8 (le-refl (at + copyGenerationAt))) i;
+          generation =
+              number-kept f (at + copyGenerationAt) 8 (outside-after at (at + copyGenerationAt) (at + copyGenerationAt) 8 (le-refl (at + copyGenerationAt))) i;
           config = f .kept (at + copyConfigAt) configSize (outside-after at (at + copyGenerationAt) (at + copyConfigAt) configSize (omega arith)) i;
         }
 

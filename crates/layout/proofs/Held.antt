@@ -5,12 +5,17 @@ use mathlib.Core.List.{List}
 use Prim.Native.Nat.{ℕ, _^_, _≤_, _<_}
 use native.Mathlib.Omega.{arith}
 use lib.ListN.{length}
-use Rattle.quorum.specs.Bytes.{number, AreBytes}
+use Rattle.basics.specs.Bytes.{number, AreBytes}
 use Rattle.layout.specs.Layout.{headSize, kindAt, spareAt, configSize, tableLength}
 use Rattle.layout.specs.Fields.{Copy, kindOf, Round, stations, items, offSet, roundOf, copyOf}
 use Rattle.layout.specs.View.{State, view}
+use Rattle.layout.specs.Rounds.{withPolled, withPuts, opened}
 use Rattle.layout.specs.Updates.{setOff, setPolled, setPuts, setRound}
-use Rattle.layout.proofs.Fields.{only-wider, number-kept, HeadOnly, head-stations, head-items, head-copies, withPolled, withPuts, opened, off-only, polled-only, puts-only, round-only, off-off, off-round, polled-off, polled-round, puts-off, puts-round, round-off, round-spare, round-kind, round-round, off-bytes, polled-bytes, puts-bytes, round-bytes, table-head}
+use Rattle.layout.proofs.Fields.{only-wider, number-kept, HeadOnly, head-stations, head-items, head-copies}
+use Rattle.layout.proofs.Fields.{off-only, polled-only, puts-only, round-only}
+use Rattle.layout.proofs.Fields.{off-off, off-round, polled-off, polled-round, puts-off, puts-round, round-off, round-spare, round-kind}
+use Rattle.layout.proofs.Fields.{round-round}
+use Rattle.layout.proofs.Fields.{off-bytes, polled-bytes, puts-bytes, round-bytes, table-head}
 use Rattle.layout.proofs.Soundness.{sound-table}
 
 -- ---- a state with another off set, another round, other copies

@@ -5,8 +5,8 @@ use Prim.Native.Nat.{ℕ, zero, suc, _+_, _*_, _^_}
 use native.Mathlib.Omega.{arith}
 use native.Mathlib.Nat.{zero-add, add-zero, suc-add, pow-succ', mul-assoc}
 use lib.ListN.{getD}
-use Rattle.quorum.specs.Bytes.{number}
-use Rattle.quorum.proofs.Bytes.{number-none, number-suc}
+use Rattle.basics.specs.Bytes.{number}
+use Rattle.basics.proofs.Bytes.{number-none, number-suc}
 
 -- a number of one byte
 pub number-one : (t : List ℕ) (at : ℕ) → number t at 1 ≡ getD t at 0
@@ -17,4 +17,5 @@ pub number-split : (t : List ℕ) (at j k : ℕ) → number t at (j + k) ≡ num
 number-split t at zero k = rw (zero-add k, number-none t at, add-zero at) (omega arith)
 number-split t at (suc j) k =
     let e : at + suc j ≡ suc at + j = omega arith in
-    rw (suc-add j k, number-suc t at (j + k), number-suc t at j, number-split t (suc at) j k, e, pow-succ' 256 j, mul-assoc 256 (256 ^ j) (number t (suc at + j) k)) (omega arith)
+    let m = mul-assoc 256 (256 ^ j) (number t (suc at + j) k) in
+    rw (suc-add j k, number-suc t at (j + k), number-suc t at j, number-split t (suc at) j k, e, pow-succ' 256 j, m) (omega arith)

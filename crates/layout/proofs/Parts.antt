@@ -6,7 +6,7 @@ use native.Mathlib.Omega.{arith}
 use native.Mathlib.Nat.{one-le-pow, zero-lt-suc, add-zero}
 use lib.ListN.{length, take, drop, set, replicate, length-append, length-take, length-drop, length-set, take-append-drop}
 use lib.Seq.{take-at, drop-at, length-take-le, take-append-le, drop-append-le, drop-append-add, drop-drop, take-all, take-suc-set, drop-set-lt, append-snoc}
-use Rattle.quorum.specs.Bytes.{part, littleEndian, number, AreBytes}
+use Rattle.basics.specs.Bytes.{part, littleEndian, number, AreBytes}
 use Rattle.layout.specs.Updates.{bytesOf, over}
 
 -- ---- parts

@@ -9,11 +9,11 @@ use native.Mathlib.Nat.{add-zero, zero-add}
 use lib.ListN.{length, getD}
 use lib.Dec.{eqb}
 use borrow.Author.Tests.{leb-true, le-leb, ltb-true, lt-ltb, eqb-true, eq-eqb, not-true}
-use Rattle.quorum.specs.Bytes.{littleEndian, number}
+use Rattle.basics.specs.Bytes.{littleEndian, number}
 use Rattle.quorum.specs.Sets.{shares, within}
 use Rattle.quorum.specs.Configurations.{valid}
-use Rattle.quorum.proofs.Bytes.{number-none, number-suc}
-use Rattle.quorum.proofs.Tests.{and-left, and-right, and-both, all-true, true-all, all-below, below-all}
+use Rattle.basics.proofs.Bytes.{number-none, number-suc}
+use Rattle.basics.proofs.Tests.{and-left, and-right, and-both, all-true, true-all, all-below, below-all}
 use Rattle.layout.proofs.Fields.{table-head}
 use Rattle.layout.specs.Layout.{headSize, tableLength, kindAt, itemAt, polledAt, dataPutsAt, configPutsAt, spareAt, valueAt, targetAt, configSize}
 use Rattle.layout.specs.Fields.{Kind, none, read, write, change, Round, stations, items, roundOf}
@@ -100,8 +100,12 @@ module _ (t : List ℕ) where
   round-facts read e =
       let p = and-left (zeroAt dataPutsAt 2 && zeroAt configPutsAt 2) (zeroAt valueAt 40) e in
       let v = value-zero t .0 (eqb-true _ 0 (and-right (zeroAt dataPutsAt 2 && zeroAt configPutsAt 2) (zeroAt valueAt 40) e)) in
-      (eqb-true _ 0 (and-left (zeroAt dataPutsAt 2) (zeroAt configPutsAt 2) p), eqb-true _ 0 (and-right (zeroAt dataPutsAt 2) (zeroAt configPutsAt 2) p), v .0, v .1)
-  round-facts write e = (eqb-true _ 0 (and-left (zeroAt configPutsAt 2) (zeroAt targetAt configSize) e), eqb-true _ 0 (and-right (zeroAt configPutsAt 2) (zeroAt targetAt configSize) e))
+      let d = eqb-true _ 0 (and-left (zeroAt dataPutsAt 2) (zeroAt configPutsAt 2) p) in
+      let c = eqb-true _ 0 (and-right (zeroAt dataPutsAt 2) (zeroAt configPutsAt 2) p) in
+      (d, c, v .0, v .1)
+  round-facts write e =
+      let c = eqb-true _ 0 (and-left (zeroAt configPutsAt 2) (zeroAt targetAt configSize) e) in
+      (c, eqb-true _ 0 (and-right (zeroAt configPutsAt 2) (zeroAt targetAt configSize) e))
   round-facts change e = (eqb-true _ 0 (and-left (zeroAt valueAt 8) _ e), and-right (zeroAt valueAt 8) _ e)
 
   facts-round : (k : Kind) → RoundFacts (stations t) (roundOf t) k → roundSound t k ≡ true
@@ -109,8 +113,8 @@ module _ (t : List ℕ) where
   facts-round none h =
       and-both (zeroAt itemAt 7) (zeroAt valueAt 40) (eq-eqb _ 0 (sets-zero t .1 (h .0, h .1, h .2, h .3))) (eq-eqb _ 0 (value-zero t .1 (h .4, h .5)))
   facts-round read h =
-      and-both (zeroAt dataPutsAt 2 && zeroAt configPutsAt 2) (zeroAt valueAt 40) (and-both (zeroAt dataPutsAt 2) (zeroAt configPutsAt 2) (eq-eqb _ 0 (h .0)) (eq-eqb _ 0 (h .1)))
-      (eq-eqb _ 0 (value-zero t .1 (h .2, h .3)))
+      let p = and-both (zeroAt dataPutsAt 2) (zeroAt configPutsAt 2) (eq-eqb _ 0 (h .0)) (eq-eqb _ 0 (h .1)) in
+      and-both (zeroAt dataPutsAt 2 && zeroAt configPutsAt 2) (zeroAt valueAt 40) p (eq-eqb _ 0 (value-zero t .1 (h .2, h .3)))
   facts-round write h = and-both (zeroAt configPutsAt 2) (zeroAt targetAt configSize) (eq-eqb _ 0 (h .0)) (eq-eqb _ 0 (h .1))
   facts-round change h = and-both (zeroAt valueAt 8) _ (eq-eqb _ 0 (h .0)) (h .1)
 

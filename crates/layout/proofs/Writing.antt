@@ -7,7 +7,7 @@ use native.Mathlib.Nat.{zero-add, add-zero, add-assoc}
 use native.Mathlib.Numerals.{add-one}
 use lib.ListN.{length, getD, drop, set, replicate, length-append, length-set, drop-of-length-le}
 use lib.Seq.{drop-cons, getD-take, getD-drop}
-use Rattle.quorum.specs.Bytes.{part}
+use Rattle.basics.specs.Bytes.{part}
 use Rattle.layout.specs.Updates.{bytesOf, over}
 use Rattle.layout.proofs.Parts.{part-length, length-bytes, over-cons, over-nil, over-append}
 
@@ -26,7 +26,8 @@ over-number t a k x r h =
     let f = length-append (bytesOf k x) r in
     sym (over-append t a (bytesOf k x) r (omega arith) ∙ rw e)
 
-pub over-numbers : (t : List ℕ) (a k x j y : ℕ) → a + k + j ≤ length t → over (over t a (bytesOf k x)) (a + k) (bytesOf j y) ≡ over t a (bytesOf k x ++ bytesOf j y)
+pub over-numbers : (t : List ℕ) (a k x j y : ℕ) → a + k + j ≤ length t
+    → over (over t a (bytesOf k x)) (a + k) (bytesOf j y) ≡ over t a (bytesOf k x ++ bytesOf j y)
 over-numbers t a k x j y h = over-number t a k x (bytesOf j y) (rw (length-bytes j y) h)
 
 -- a list that is written whole

@@ -1,8 +1,9 @@
 -- The fields of the table, read from its bytes.
 use mathlib.Core.List.{List}
 use Prim.Native.Nat.{ℕ, zero, suc, _+_}
-use Rattle.quorum.specs.Bytes.{part, number}
-use Rattle.layout.specs.Layout.{stationsAt, itemsAt, offAt, kindAt, itemAt, polledAt, dataPutsAt, configPutsAt, valueAt, targetAt, copyVersionAt, copyValueAt, copyGenerationAt, copyConfigAt, configSize, address}
+use Rattle.basics.specs.Bytes.{part, number}
+use Rattle.layout.specs.Layout.{stationsAt, itemsAt, offAt, kindAt, itemAt, polledAt, dataPutsAt, configPutsAt, valueAt, targetAt}
+use Rattle.layout.specs.Layout.{copyVersionAt, copyValueAt, copyGenerationAt, copyConfigAt, configSize, address}
 
 -- One copy: the data replica (version and value) and the configuration replica (generation and configuration) of source 000
 -- at one station. Here both counters are numbers; "A version is compared only with versions, and a generation only with
@@ -12,6 +13,9 @@ pub record Copy : Type 0 where
   pub value : ℕ
   pub generation : ℕ
   pub config : List ℕ
+
+abbrev pub newCopy : ℕ → ℕ → ℕ → List ℕ → Copy
+newCopy version value generation config = record { version = version; value = value; generation = generation; config = config }
 
 -- A round is a logical access of source 000: none is open, or one that reads, writes or reconfigures.
 pub data Kind : Type 0 where

@@ -1,8 +1,11 @@
 -- Bytes of the table (document 01): its sizes and offsets.
+use mathlib.Core.Bool.{Bool, not, cond, _&&_}
 use Prim.Native.Nat.{ℕ, _+_, _*_}
+use lib.Dec.{leb}
 
 -- "Head, 56 bytes: 0 n; 1 m; 2–3 set of stations off the bus; 4 round (0 none, 1 read, 2 write, 3 change); 5 item;
 -- 6–7 polled set; 8–9 data puts; 10–11 configuration puts; 12–15 zero; 16–23 value to write; 24–55 target configuration."
+-- The head ends here.
 abbrev pub headSize : ℕ
 headSize = 56
 
@@ -39,6 +42,10 @@ valueAt = 16
 abbrev pub targetAt : ℕ
 targetAt = 24
 
+-- the copies start here: "The copy of item i at station s starts at 56 + .."
+abbrev pub copiesAt : ℕ
+copiesAt = 56
+
 -- "The copy .. 0–7 version, 8–15 value, 16–23 generation, 24–55 configuration."
 abbrev pub copySize : ℕ
 copySize = 56
@@ -61,8 +68,19 @@ configSize = 32
 
 -- "The copy of item i at station s starts at 56 + 56 × (i × n + s)."
 unfoldable pub address : ℕ → ℕ → ℕ → ℕ
-address n i s = headSize + copySize * (i * n + s)
+address n i s = copiesAt + copySize * (i * n + s)
 
 -- "The length is 56 × (1 + n × m), at most 28,728": that of 16 stations and 32 items.
 unfoldable pub tableLength : ℕ → ℕ → ℕ
-tableLength n m = headSize + copySize * (n * m)
+tableLength n m = copiesAt + copySize * (n * m)
+
+abbrev pub largest : ℕ
+largest = 28728
+
+-- "A table has n stations, 1 to 16, and m items, 1 to 32."
+abbrev pub listed : ℕ → ℕ → Bool
+listed n m = leb 1 n && leb n 16 && leb 1 m && leb m 32
+
+-- the length that a lay needs; for n or m out of range it needs nothing
+unfoldable pub layLength : ℕ → ℕ → ℕ
+layLength n m = cond (not (listed n m)) 0 (tableLength n m)

@@ -1,15 +1,15 @@
 -- A sound table (document 01, "Bytes of the table"). A table of any length and content has an answer.
 use mathlib.Core.Bool.{Bool, not, _&&_}
 use mathlib.Core.List.{List, [], _∷_}
-use Prim.Native.Nat.{ℕ}
+use Prim.Native.Nat.{ℕ, _-_}
 use lib.ListN.{length}
 use lib.Dec.{ltb, leb, eqb}
-use Rattle.quorum.specs.Tests.{all, allBelow}
-use Rattle.quorum.specs.Bytes.{number}
+use Rattle.basics.specs.Tests.{all, allBelow}
+use Rattle.basics.specs.Bytes.{number}
 use Rattle.quorum.specs.Sets.{shares, within}
 use Rattle.quorum.specs.Configurations.{valid}
-use Rattle.layout.specs.Layout.{tableLength, kindAt, itemAt, spareAt, valueAt, targetAt, configSize}
-use Rattle.layout.specs.Fields.{Kind, none, read, write, change, stations, items, offSet, roundOf, copyOf}
+use Rattle.layout.specs.Layout.{headSize, tableLength, kindAt, itemAt, spareAt, valueAt, targetAt, configSize}
+use Rattle.layout.specs.Fields.{Kind, none, read, write, change, kindByte, stations, items, offSet, roundOf, copyOf}
 
 -- the bytes from a place on, as many as the width says, are zero
 abbrev pub isZero : List ℕ → ℕ → ℕ → Bool
@@ -18,8 +18,8 @@ isZero t at width = eqb (number t at width) 0
 -- "with no round, bytes 5–11 and 16–55 are zero; in a read both put sets, value and target are zero; in a write the
 -- configuration puts and target are zero; in a change the value is zero and the target valid"
 unfoldable pub roundSound : List ℕ → Kind → Bool
-roundSound t none = isZero t itemAt 7 && isZero t valueAt 40
-roundSound t read = eqb (roundOf t .dataPuts) 0 && eqb (roundOf t .configPuts) 0 && isZero t valueAt 40
+roundSound t none = isZero t itemAt (spareAt - itemAt) && isZero t valueAt (headSize - valueAt)
+roundSound t read = eqb (roundOf t .dataPuts) 0 && eqb (roundOf t .configPuts) 0 && isZero t valueAt (headSize - valueAt)
 roundSound t write = eqb (roundOf t .configPuts) 0 && isZero t targetAt configSize
 roundSound t change = eqb (roundOf t .value) 0 && valid (stations t) (roundOf t .target)
 
@@ -36,7 +36,7 @@ soundness t =
     ∷ leb (stations t) 16
     ∷ leb 1 (items t)
     ∷ leb (items t) 32
-    ∷ leb (number t kindAt 1) 3
+    ∷ leb (number t kindAt 1) (kindByte change)
     ∷ ltb (roundOf t .item) (items t)
     -- all head sets name stations below n
     ∷ within (stations t) (offSet t)
@@ -49,7 +49,7 @@ soundness t =
     -- with no round .. in a read .. in a write .. in a change
     ∷ roundSound t (roundOf t .kind)
     -- 12–15 are zero
-    ∷ isZero t spareAt 4
+    ∷ isZero t spareAt (valueAt - spareAt)
     -- every copy's configuration is valid
     ∷ copiesValid t
     ∷ []

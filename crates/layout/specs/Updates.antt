@@ -1,8 +1,11 @@
 -- What is written into the table's bytes.
+use mathlib.Core.Bool.{Bool, cond}
 use mathlib.Core.List.{List, [], _∷_, _++_}
-use Prim.Native.Nat.{ℕ, zero, suc, _+_, _/_, _%_}
+use Prim.Native.Nat.{ℕ, zero, suc, _+_, _-_, _*_, _/_, _%_}
 use lib.ListN.{length, take, drop, replicate}
-use Rattle.layout.specs.Layout.{offAt, kindAt, polledAt, dataPutsAt, valueAt, configSize, copyVersionAt, copyGenerationAt}
+use Rattle.quorum.specs.Sets.{member}
+use Rattle.layout.specs.Layout.{headSize, offAt, kindAt, polledAt, dataPutsAt, spareAt, valueAt, configSize, copyVersionAt, copyGenerationAt, address}
+use Rattle.layout.specs.Fields.{Copy, none, kindByte, Round}
 
 -- the bytes of a number, as many as the width says: "Numbers are least significant byte first."
 unfoldable pub bytesOf : ℕ → ℕ → List ℕ
@@ -26,7 +29,7 @@ setPuts t dataPuts configPuts = over t dataPutsAt (bytesOf 2 dataPuts ++ bytesOf
 -- a round of a kind on an item, with nothing polled and no puts, its value and its target
 unfoldable pub setRound : List ℕ → ℕ → ℕ → ℕ → List ℕ → List ℕ
 setRound t kind item value target =
-    over (over t kindAt (kind ∷ item ∷ replicate 6 0)) valueAt (bytesOf 8 value ++ target)
+    over (over t kindAt (kind ∷ item ∷ replicate (spareAt - polledAt) 0)) valueAt (bytesOf 8 value ++ target)
 
 -- the target of a round that has none
 abbrev pub noTarget : List ℕ
@@ -42,3 +45,30 @@ putConfig t at generation config = over t (at + copyGenerationAt) (bytesOf 8 gen
 -- the bytes of a whole copy
 unfoldable pub copyBytes : ℕ → ℕ → ℕ → List ℕ → List ℕ
 copyBytes version value generation config = bytesOf 8 version ++ (bytesOf 8 value ++ (bytesOf 8 generation ++ config))
+
+-- ---- what lay writes
+-- bytes, so many times over
+unfoldable pub repeated : ℕ → List ℕ → List ℕ
+repeated zero bytes = []
+repeated (suc k) bytes = bytes ++ repeated k bytes
+
+-- "Lay (n, m, starting value, configuration): every item alike, all stations on, no round." "Versions and generations start at 0."
+abbrev pub laid : ℕ → ℕ → ℕ → List ℕ → List ℕ
+laid n m value config = (n ∷ m ∷ replicate (headSize - offAt) 0) ++ repeated (n * m) (copyBytes 0 value 0 config)
+
+-- ---- what commit writes
+-- "Then every put takes effect": what the round stores goes to one copy, its version and value by a data put, its generation and
+-- configuration by a configuration put
+abbrev pub putCopy : List ℕ → ℕ → Bool → Bool → Copy → List ℕ
+putCopy t at data? config? new =
+    let u = cond data? (putData t at (new .version) (new .value)) t in cond config? (putConfig u at (new .generation) (new .config)) u
+
+-- and so to the copies of the round's item at the stations below a bound, of n
+unfoldable pub putCopies : List ℕ → ℕ → Round → Copy → ℕ → List ℕ
+putCopies t n r new zero = t
+putCopies t n r new (suc s) =
+    putCopy (putCopies t n r new s) (address n (r .item) s) (member (r .dataPuts) s) (member (r .configPuts) s) new
+
+-- "The round closes."
+abbrev pub closed : List ℕ → List ℕ
+closed t = setRound t (kindByte none) 0 0 noTarget

@@ -5,8 +5,13 @@ use Prim.Native.Nat.{ℕ}
 use lib.ListN.{length}
 use lib.Dec.{eqb}
 use Rattle.layout.specs.Layout.{tableLength}
+use Rattle.layout.specs.Newest.{byVersion, byGeneration, hears}
 use Rattle.layout.specs.Fields.{Copy, Round, stations, items, offSet, roundOf, copyOf}
 use Rattle.layout.specs.Soundness.{sound}
+
+-- a table, as the calls are lent it: its bytes
+abbrev pub Table : Type 0
+Table = List ℕ
 
 pub record State : Type 0 where
   -- the table is sound; its length is that of a table of so many stations and items
@@ -19,7 +24,7 @@ pub record State : Type 0 where
   pub round : Round
   pub copies : ℕ → ℕ → Copy
 
-unfoldable pub view : List ℕ → State
+unfoldable pub view : Table → State
 view t =
     record {
       isSound = sound t;
@@ -30,3 +35,16 @@ view t =
       round = roundOf t;
       copies = copyOf t;
     }
+
+-- ---- the open round: its item's copies, what its polled copies give, whether it is heard
+abbrev pub own : State → ℕ → Copy
+own v = v .copies (v .round .item)
+
+abbrev pub foundByVersion : State → Copy
+foundByVersion v = byVersion (own v) (v .round .polled) (v .n)
+
+abbrev pub foundByGeneration : State → Copy
+foundByGeneration v = byGeneration (own v) (v .round .polled) (v .n)
+
+abbrev pub heard : State → Bool
+heard v = hears (own v) (v .round .polled) (v .n)

@@ -1,4 +1,1 @@
-// The bytes of the table.
-pub mod copy;
-pub mod head;
-pub mod number;
+// The bytes of the table: definitions and laws, no code.

@@ -1,21 +1,20 @@
--- The line splitter and the run: what a stretch of input up to a line end, or to the end of a piece, does to a runner's state.
+-- What a stretch of input up to a line end, or to the end of a piece, does to what is in hand, and what is printed there.
 use mathlib.Core.Path.{_≡_, refl, sym, ap, _∙_}
-use mathlib.Core.Bool.{Bool, true, false, cond, _||_, false≢true}
-use mathlib.Core.List.{List, [], _∷_, _++_, append-nil, append-assoc}
-use Prim.Native.Nat.{ℕ, suc, _+_, _-_, _≤_}
+use mathlib.Core.Bool.{Bool, cond}
+use mathlib.Core.List.{List, [], _∷_, _++_, append-nil}
+use Prim.Native.Nat.{ℕ, suc, _+_, _-_, _≤_, _<_}
 use native.Mathlib.Omega.{arith}
 use lib.Dec.{eqb}
-use lib.ListN.{length, take, drop, length-append}
-use lib.Seq.{append-snoc, take-length, take-append-add, length-take-le, take-at}
+use lib.ListN.{length, take, drop, length-drop}
+use lib.Seq.{append-snoc}
 use borrow.Author.Tests.{eqb-true, eqb-false, ne-eqb}
-use Rattle.quorum.proofs.Tests.{by-cases, or-false-left, or-false-right}
-use Rattle.layout.specs.Updates.{over}
+use Rattle.basics.proofs.Tests.{by-cases}
 use Rattle.replies.specs.ReplyLine.{lineEnd}
 use Rattle.runs.specs.Session.{tableAfter, printed}
-use Rattle.runs.specs.Feed.{enough, clip, afterPiece, printedBy}
-use Rattle.lines.specs.Splitting.{lead, hasEnd, kept, takenFrom}
+use Rattle.runs.specs.Pieces.{clip, afterPiece, printedBy}
 use Rattle.runs.specs.Claims.{NoEnd}
 use Rattle.runs.proofs.Pieces.{keeps, next-more, next-line, after-append, printed-append, printed-clip, clip-join}
+use Rattle.lines.specs.Splitting.{lead, endFrom, stretch}
 
 -- ---- bytes that end no line
 plain-state : (t line l : List ℕ) → NoEnd l → afterPiece (keeps t line) l ≡ keeps t (line ++ l)
@@ -42,7 +41,7 @@ ended-printed t line l h =
     printed-append (keeps t line) l (lineEnd ∷ [])
     ∙ rw (plain-printed t line l h, plain-state t line l h) (append-nil (printed t (clip (line ++ l))) ∙ printed-clip t (line ++ l))
 
--- ---- the stretch of a piece that the splitter takes
+-- ---- the bytes before a line end
 lead-plain : (xs : List ℕ) → NoEnd (lead xs)
 unfolding lead
 lead-plain [] = tt
@@ -50,66 +49,66 @@ lead-plain (b ∷ xs) =
     let r = lead-plain xs in
     by-cases (λ (e : Bool). eqb b lineEnd ≡ e → NoEnd (cond e [] (b ∷ lead xs))) (eqb b lineEnd) (λ _ e. tt) (λ _ e. (eqb-false b lineEnd e, r)) refl
 
-lead-all : (xs : List ℕ) → hasEnd xs ≡ false → lead xs ≡ xs
-unfolding lead hasEnd
-lead-all [] h = refl
-lead-all (b ∷ xs) h =
-    let p = or-false-left (eqb b lineEnd) (hasEnd xs) h in
-    rw (p, lead-all xs (or-false-right (eqb b lineEnd) (hasEnd xs) h))
+pub lead-length : (xs : List ℕ) → length (lead xs) ≤ length xs
+unfolding lead
+lead-length [] = omega arith
+lead-length (b ∷ xs) =
+    by-cases (λ (e : Bool). length (cond e [] (b ∷ lead xs)) ≤ suc (length xs)) (eqb b lineEnd) (λ _. omega arith)
+    (λ _. omega (arith, lead-length xs))
 
-lead-end : (xs : List ℕ) → hasEnd xs ≡ true → take (length (lead xs) + 1) xs ≡ lead xs ++ (lineEnd ∷ [])
-unfolding lead hasEnd
-lead-end [] h = absurd (false≢true h)
+lead-front : (xs : List ℕ) → take (length (lead xs)) xs ≡ lead xs
+unfolding lead
+lead-front [] = refl
+lead-front (b ∷ xs) =
+    by-cases (λ (e : Bool). take (length (cond e [] (b ∷ lead xs))) (b ∷ xs) ≡ cond e [] (b ∷ lead xs)) (eqb b lineEnd) (λ _. refl)
+    (λ _. ap (λ l. b ∷ l) (lead-front xs))
+
+lead-end : (xs : List ℕ) → length (lead xs) < length xs → take (length (lead xs) + 1) xs ≡ lead xs ++ (lineEnd ∷ [])
+unfolding lead
+lead-end [] h = absurd (omega arith)
 lead-end (b ∷ xs) h =
-    let r = lead-end xs in
     let n : suc (length (lead xs)) + 1 ≡ suc (length (lead xs) + 1) = omega arith in
     by-cases
     (λ (e : Bool).
-    eqb b lineEnd ≡ e → (e || hasEnd xs) ≡ true
+    eqb b lineEnd ≡ e → length (cond e [] (b ∷ lead xs)) < suc (length xs)
     → take (length (cond e [] (b ∷ lead xs)) + 1) (b ∷ xs) ≡ cond e [] (b ∷ lead xs) ++ (lineEnd ∷ [])) (eqb b lineEnd)
-    (λ _ e q. ap (λ x. x ∷ []) (eqb-true b lineEnd e)) (λ _ e q. rw n (ap (λ l. b ∷ l) (r q))) refl h
+    (λ _ e q. ap (λ x. x ∷ []) (eqb-true b lineEnd e)) (λ _ e q. rw n (ap (λ l. b ∷ l) (lead-end xs (omega arith)))) refl h
 
--- how far it goes, from where it began
-module _ (piece : List ℕ) (at len : ℕ) where
-  stretch-ended : hasEnd (drop at piece) ≡ true
-      → take (takenFrom piece at len .at - at) (drop at piece) ≡ lead (drop at piece) ++ (lineEnd ∷ [])
-  unfolding takenFrom
-  stretch-ended h =
-      let n : at + length (lead (drop at piece)) + 1 - at ≡ length (lead (drop at piece)) + 1 = omega arith in
-      rw (h, n) (lead-end (drop at piece) h)
+-- ---- the stretch from a place of a piece to the end that the search finds; the line so far is one that a runner keeps
+module _ (piece : List ℕ) (at end : ℕ) (found : end ≡ endFrom piece at) where
+  to-end : stretch piece at end ≡ lead (drop at piece)
+  unfolding endFrom
+  to-end =
+      let n : end - at ≡ length (lead (drop at piece)) = omega (arith, found) in
+      rw n (lead-front (drop at piece))
 
-  stretch-over : hasEnd (drop at piece) ≡ false → take (takenFrom piece at len .at - at) (drop at piece) ≡ lead (drop at piece)
-  unfolding takenFrom
-  stretch-over h =
-      let n : at + length (lead (drop at piece)) + 0 - at ≡ length (lead (drop at piece)) = omega arith in
-      rw (h, n, lead-all (drop at piece) h) (take-length (drop at piece))
+  past-end : end < length piece → stretch piece at (end + 1) ≡ lead (drop at piece) ++ (lineEnd ∷ [])
+  unfolding endFrom
+  past-end h =
+      let n : end + 1 - at ≡ length (lead (drop at piece)) + 1 = omega (arith, found) in
+      let l : length (lead (drop at piece)) < length (drop at piece) = rw length-drop (omega (arith, found)) in
+      rw n (lead-end (drop at piece) l)
 
--- ---- the line so far in its buffer
-pub taken-line : (old : List ℕ) (len : ℕ) (more : List ℕ) → len ≤ enough → enough ≤ length old
-    → take (len + length (kept len more)) (over old len (kept len more)) ≡ clip (take len old ++ more)
-unfolding over kept clip
-taken-line old len more h l =
-    let front = take len old in
-    let k = take (enough - len) more in
-    let n : length front ≡ len = length-take-le len old (omega arith) in
-    let m : length (front ++ k) ≡ len + length k = omega (arith, length-append front k) in
-    let e : length front + (enough - len) ≡ enough = omega arith in
-    rw (← append-assoc front k (drop (len + length k) old)) (take-at (front ++ k) (drop (len + length k) old) (len + length k) m)
-    ∙ sym (ap (λ i. take i (front ++ more)) (sym e) ∙ take-append-add front more (enough - len))
+  pub end-forward : at ≤ end
+  unfolding endFrom
+  end-forward = omega (arith, found)
 
--- ---- one call of the splitter: the state after the stretch that it took, and what is printed there. The line so far is the first
--- `len` bytes of its buffer, clipped to what a runner keeps.
-module _ (piece : List ℕ) (at len : ℕ) (t line : List ℕ) where
-  pub splits-ended : hasEnd (drop at piece) ≡ true
-      → (afterPiece (keeps t line) (take (takenFrom piece at len .at - at) (drop at piece)) ≡ keeps (tableAfter t (line ++ lead (drop at piece))) [])
-      × (printedBy (keeps t line) (take (takenFrom piece at len .at - at) (drop at piece)) ≡ printed t (line ++ lead (drop at piece)))
-  splits-ended h =
-      rw (stretch-ended piece at len h)
-      (ended-state t line (lead (drop at piece)) (lead-plain (drop at piece)), ended-printed t line (lead (drop at piece)) (lead-plain (drop at piece)))
+  pub end-within : at ≤ length piece → end ≤ length piece
+  unfolding endFrom
+  end-within h = omega (arith, found, lead-length (drop at piece), length-drop at piece)
 
-  pub splits-over : hasEnd (drop at piece) ≡ false
-      → (afterPiece (keeps t line) (take (takenFrom piece at len .at - at) (drop at piece)) ≡ keeps t (line ++ lead (drop at piece)))
-      × (printedBy (keeps t line) (take (takenFrom piece at len .at - at) (drop at piece)) ≡ [])
-  splits-over h =
-      rw (stretch-over piece at len h)
-      (plain-state t line (lead (drop at piece)) (lead-plain (drop at piece)), plain-printed t line (lead (drop at piece)) (lead-plain (drop at piece)))
+  module _ (t line : List ℕ) where
+    -- up to a line end, which answers the line
+    pub ended-stretch : end < length piece
+        → (afterPiece (keeps t line) (stretch piece at (end + 1)) ≡ keeps (tableAfter t (line ++ stretch piece at end)) [])
+        × (printedBy (keeps t line) (stretch piece at (end + 1)) ≡ printed t (line ++ stretch piece at end))
+    ended-stretch h =
+        let l = lead (drop at piece) in
+        rw (past-end h, to-end) (ended-state t line l (lead-plain (drop at piece)), ended-printed t line l (lead-plain (drop at piece)))
+
+    -- up to the end of the piece, which cuts the line
+    pub cut-stretch : (afterPiece (keeps t line) (stretch piece at end) ≡ keeps t (line ++ stretch piece at end))
+        × (printedBy (keeps t line) (stretch piece at end) ≡ [])
+    cut-stretch =
+        let l = lead (drop at piece) in
+        rw to-end (plain-state t line l (lead-plain (drop at piece)), plain-printed t line l (lead-plain (drop at piece)))

@@ -1,32 +1,21 @@
--- What the line splitter does with a piece of input. A reader of the claims needs `afterPiece` and `printedBy`; proofs/Stretches.antt
--- has that the splitter does what they say (`splits-ended`, `splits-over`).
-use mathlib.Core.Bool.{Bool, false, cond, _||_}
+-- Where lines end in a piece of input. A reader of the claims needs `afterPiece` and `printedBy`; proofs/Stretches.antt has what they
+-- give for the stretch up to a line end (`ended-stretch`) and up to the end of the piece (`cut-stretch`).
+use mathlib.Core.Bool.{cond}
 use mathlib.Core.List.{List, [], _∷_}
 use Prim.Native.Nat.{ℕ, _+_, _-_}
 use lib.Dec.{eqb}
 use lib.ListN.{length, take, drop}
 use Rattle.replies.specs.ReplyLine.{lineEnd}
-use Rattle.runs.specs.Feed.{enough}
-use Rattle.lines.specs.declared.Taken.{Taken}
 
--- the bytes before the first line end, and whether there is one
+-- the bytes before the first line end
 unfoldable pub lead : List ℕ → List ℕ
 lead [] = []
 lead (byte ∷ rest) = cond (eqb byte lineEnd) [] (byte ∷ lead rest)
 
-unfoldable pub hasEnd : List ℕ → Bool
-hasEnd [] = false
-hasEnd (byte ∷ rest) = eqb byte lineEnd || hasEnd rest
+-- the place of the next line end from a place on, or the end of the piece
+unfoldable pub endFrom : List ℕ → ℕ → ℕ
+endFrom piece at = at + length (lead (drop at piece))
 
--- what is kept of these bytes, where so many bytes of the line are there already
-unfoldable pub kept : ℕ → List ℕ → List ℕ
-kept len bytes = take (enough - len) bytes
-
--- where the splitter stops in a piece: past the line end, or at the end of the piece
-unfoldable pub takenFrom : List ℕ → ℕ → ℕ → Taken
-takenFrom piece at len =
-    record {
-      at = at + length (lead (drop at piece)) + cond (hasEnd (drop at piece)) 1 0;
-      len = len + length (kept len (lead (drop at piece)));
-      ended = hasEnd (drop at piece);
-    }
+-- the stretch of the piece from one place to another
+abbrev pub stretch : List ℕ → ℕ → ℕ → List ℕ
+stretch piece from to = take (to - from) (drop from piece)

@@ -1,55 +1,51 @@
-// Lines: a piece of input is taken into the line so far, up to its next line end.
+// Lines: where one ends in a piece of input, and what is kept of one that the end of a piece cuts.
 ghost use mathlib.Core.Path.{_≡_};
-ghost use mathlib.Core.List.{_∷_, []};
-ghost use Prim.Native.Nat.{_+_, _≤_};
-ghost use lib.ListN.{length, drop};
-ghost use Rattle.layout.specs.Updates.{over};
-ghost use Rattle.lines.specs.Splitting.{lead, kept, takenFrom};
+ghost use mathlib.Core.List.{_++_};
+ghost use Prim.Native.Nat.{_+_, _-_, _≤_};
+ghost use lib.ListN.{length, take};
+ghost use Rattle.runs.specs.Pieces.{enough, clip};
+ghost use Rattle.lines.specs.Splitting.{endFrom};
+use replies::LINE_END;
 
-// Where the splitter stopped in the piece, the length of the line so far, and whether its end was found.
-pub struct Taken {
-    pub at: usize,
-    pub len: usize,
-    pub ended: bool,
-}
+// So many bytes of a line tell its reply, and the rest is not kept.
+pub const ENOUGH: usize = 87;
 
-// A byte joins the line so far, of which 87 bytes are kept.
-fn keep_byte(line: &mut [u8], len: usize, byte: u8) -> usize
-    requires { ⌜ (len ≤ 87) × (87 ≤ length (now line)) ⌝ }
-    ensures { λ r. ⌜ r ≡ len + length (kept len (byte ∷ [])) ⌝ }
-    ensures { λ _. ⌜ now (line .exit) ≡ over (now (line .entry)) len (kept len (byte ∷ [])) ⌝ }
-{
-    if len < 87 {
-        line[len] = byte;
-        len + 1
-    } else {
-        len
-    }
-}
-
-// Takes the piece's bytes from a place on into the line so far, up to the next line end.
-pub fn take_line(piece: &[u8], at: usize, line: &mut [u8], len: usize) -> Taken
-    requires { ⌜ (len ≤ 87) × (87 ≤ length (now line)) ⌝ }
-    ensures { λ r. ⌜ r ≡ takenFrom (now (piece .entry)) at len ⌝ }
-    ensures { λ _. ⌜ now (line .exit) ≡ over (now (line .entry)) len (kept len (lead (drop at (now (piece .entry))))) ⌝ }
+// The place of the next line end, from a place on, or the end of the piece.
+pub fn find_end(piece: &[u8], at: usize) -> usize
+    ensures { λ r. ⌜ r ≡ endFrom (now (piece .entry)) at ⌝ }
 {
     let mut i = at;
-    let mut n = len;
     while i < piece.len() {
-        let byte = piece[i];
-        i = i + 1;
-        if byte == 10 {
-            return Taken {
-                at: i,
-                len: n,
-                ended: true,
-            };
+        if piece[i] == LINE_END {
+            return i;
         }
-        n = keep_byte(line, n, byte);
+        i += 1;
     }
-    Taken {
-        at: i,
-        len: n,
-        ended: false,
+    i
+}
+
+// How many of these bytes join a line so far of so many bytes.
+fn joining(bytes: &[u8], len: usize) -> usize
+    requires { ⌜ len ≤ enough ⌝ }
+    ensures { λ r. ⌜ (r ≤ length (now (bytes .entry))) × (len + r ≤ enough) ⌝ }
+    ensures { λ r. ⌜ take r (now (bytes .entry)) ≡ take (enough - len) (now (bytes .entry)) ⌝ }
+{
+    let room = ENOUGH - len;
+    if bytes.len() < room {
+        return bytes.len();
     }
+    room
+}
+
+// Bytes join the line so far in its buffer; returns its length then. What the buffer holds behind the line is free.
+pub fn keep(bytes: &[u8], line: &mut [u8], len: usize) -> usize
+    requires { ⌜ (len ≤ enough) × (enough ≤ length (now line)) ⌝ }
+    ensures { λ r. ⌜ r ≤ enough ⌝ }
+    ensures { λ r. ⌜ take r (now (line .exit)) ≡ clip (take len (now (line .entry)) ++ now (bytes .entry)) ⌝ }
+{
+    let more = joining(bytes, len);
+    for k in 0..more {
+        line[len + k] = bytes[k];
+    }
+    len + more
 }

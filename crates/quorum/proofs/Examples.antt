@@ -4,8 +4,8 @@ use mathlib.Core.Bool.{Bool, true, false}
 use mathlib.Core.List.{List, [], _∷_, _++_}
 use Prim.Native.Nat.{ℕ}
 use lib.ListN.{replicate}
-use Rattle.quorum.specs.Tests.{all, allBelow, anyBelow}
-use Rattle.quorum.specs.Bytes.{littleEndian}
+use Rattle.basics.specs.Tests.{all, allBelow, anyBelow}
+use Rattle.basics.specs.Bytes.{littleEndian}
 use Rattle.quorum.specs.Sets.{used, holds, shares, within}
 use Rattle.quorum.specs.Configurations.{setAt, readSet, writeSet, usedFirst, someUsed, allWithin, sharesAll, allShare, validity, valid, holdsPlace, holdsRead, holdsWrite, firstPlace, orElse, firstRead, firstWrite}
 use Rattle.quorum.specs.declared.Place.the-variants.{At, Nowhere}

@@ -1,7 +1,5 @@
-pub mod Tests
-pub mod Bytes
-pub mod Members
-pub mod Validity
-pub mod Sides
+mod Members
+mod Validity
+mod Sides
 pub mod Promise
 mod Examples

@@ -13,7 +13,7 @@ use lib.Bits.{bitAnd, bitOr, and-step, or-step, and-le-l, or-lt, and-self, and-z
 use lib.Count.{trailingZeros, under}
 use borrow.Author.Tests.{ltb-true, lt-ltb, le-ltb, eqb-true, eqb-false, eq-eqb, ne-eqb, not-true}
 use Rattle.quorum.specs.Sets.{member, used, holds, shares, within, join, unite, minus, remove, lowest, full}
-use Rattle.quorum.proofs.Tests.{same-test, and-left, and-right, and-both, or-left, or-right, or-cases, by-cases, clash}
+use Rattle.basics.proofs.Tests.{same-test, and-left, and-right, and-both, or-left, or-right, or-cases, by-cases, clash}
 
 -- ---- station 0, and the stations above it
 pub member-zero : (a : ℕ) → member a 0 ≡ eqb (a % 2) 1

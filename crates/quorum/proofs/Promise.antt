@@ -4,24 +4,20 @@ use mathlib.Core.Bool.{Bool, true, false}
 use mathlib.Core.List.{List}
 use mathlib.Core.Logic.{_↔_}
 use Prim.Native.Nat.{ℕ, _+_, _≤_, _^_}
+use native.Mathlib.Nat.{le-refl}
 use native.Mathlib.Omega.{arith}
 use lib.ListN.{length}
 use lib.Pow.{pow-pos, pow-mono}
 use borrow.Author.Tests.{ltb-true, lt-ltb, ne-eqb}
-use Rattle.quorum.specs.Tests.{anyBelow}
+use Rattle.basics.specs.Tests.{anyBelow, Some}
 use Rattle.quorum.specs.Sets.{member, used, within, unite, remove, full}
 use Rattle.quorum.specs.Configurations.{setAt, readSet, writeSet, valid, holdsPlace, holdsRead, holdsWrite, firstPlace, firstRead, firstWrite}
-use Rattle.quorum.specs.Promise.{Promise, Some, _⊆_, LiesIn, FirstIn, Side}
+use Rattle.quorum.specs.Promise.{Promise, _⊆_, LiesIn, FirstIn, Side}
 use Rattle.quorum.specs.declared.Place.the-variants.{At}
-use Rattle.quorum.proofs.Tests.{clash, same-test, any-below, below-any}
-use Rattle.quorum.proofs.Members.{member-empty, member-join, member-or, member-minus, member-remove, member-full, same-members, holds-member, member-holds, shares-members, used-member, within-members, within-join, within-unite, within-minus}
+use Rattle.basics.proofs.Tests.{clash, fails, same-test, any-below, below-any}
+use Rattle.quorum.proofs.Members.{member-empty, member-join, member-or, member-minus, member-remove, member-full, same-members, holds-member, member-holds, shares-members, used-member, within-members, full-all, within-join, within-unite, within-minus}
 use Rattle.quorum.proofs.Members.{lowest-member, below-lowest, remove-less}
 use Rattle.quorum.proofs.Validity.{valid-facts, facts-valid, first-used, place-lies, lies-place, first-found, first-nowhere}
-
--- a test that cannot pass fails
-fails : (b : Bool) → (b ≡ true → ⊥) → b ≡ false
-fails true h = absurd (h refl)
-fails false h = refl
 
 -- ---- a side of a configuration
 module _ (side : ℕ → ℕ) (set : ℕ) where
@@ -99,6 +95,7 @@ promise =
       no-first-write = λ c set. first-nowhere (holdsPlace (writeSet c) set) 8;
       valid-exactly = λ n c. (valid-facts n c, facts-valid n c);
       valid-stations = λ n c v. let f = valid-facts n c v in (f .positive, f .small);
+      first-used = first-used;
       valid-length = λ n c v. valid-facts n c v .long;
       short-read = λ c set h. short (readSet c) set (λ k. no-set c k h);
       short-write = λ c set h. short (writeSet c) set (λ k. no-set c (8 + k) h);
@@ -108,6 +105,7 @@ promise =
       member-minus = λ a b i. member-minus i a b;
       member-remove = λ a i k. member-remove i k a;
       member-full = member-full;
+      full-16 = full-all 16 (le-refl 16);
       used-member = used-member;
       same-members = λ a b p q. same-members a b (λ i. same-test _ _ (p i) (q i));
       holds-members = λ a b. (holds-member a b, member-holds a b);

@@ -10,12 +10,12 @@ use native.Mathlib.Omega.{arith}
 use lib.ListN.{length}
 use lib.Dec.{eqb}
 use borrow.Author.Tests.{leb-true, le-leb, eqb-true, eqb-false, eq-eqb, not-true}
-use Rattle.quorum.specs.Tests.{anyBelow}
+use Rattle.basics.specs.Tests.{anyBelow}
 use Rattle.quorum.specs.Sets.{used}
 use Rattle.quorum.specs.Configurations.{readSet, writeSet, usedFirst, someUsed, allWithin, sharesAll, allShare, validity, valid, holdsPlace, firstPlace, orElse}
 use Rattle.quorum.specs.Promise.{LiesIn, Side, Valid}
 use Rattle.quorum.specs.declared.Place.the-variants.{At, Nowhere}
-use Rattle.quorum.proofs.Tests.{clash, by-cases, and-left, and-right, and-both, implies, implied, or-cases, all-true, true-all, all-below, below-all, any-below, below-any, below-suc}
+use Rattle.basics.proofs.Tests.{clash, by-cases, and-left, and-right, and-both, implies, implied, or-cases, all-true, true-all, all-below, below-all, any-below, below-any, below-suc}
 use Rattle.quorum.proofs.Members.{holds-member, member-holds, shares-members, within-members}
 
 or-swap : (a b : Bool) → (a || not b) ≡ true → b ≡ true → a ≡ true
@@ -93,9 +93,6 @@ facts-valid n c v =
         ),
       ),
     )
-
-pub invalid : (n : ℕ) (c : List ℕ) → (Valid n c → ⊥) → false ≡ valid n c
-invalid n c h = by-cases (λ (b : Bool). false ≡ b) (valid n c) (λ e. absurd (h (valid-facts n c e))) (λ _. refl)
 
 -- the first place of a valid side is used
 pub first-used : (n : ℕ) (side : ℕ → ℕ) → Side n side → used (side 0) ≡ true

@@ -4,8 +4,8 @@ use mathlib.Core.List.{List, [], _∷_}
 use Prim.Native.Nat.{ℕ, zero, suc, _+_, _*_}
 use lib.ListN.{length}
 use lib.Dec.{leb, eqb}
-use Rattle.quorum.specs.Tests.{all, allBelow, anyBelow}
-use Rattle.quorum.specs.Bytes.{part, number}
+use Rattle.basics.specs.Tests.{all, allBelow, anyBelow}
+use Rattle.basics.specs.Bytes.{part, number}
 use Rattle.quorum.specs.Sets.{used, holds, shares, within}
 use Rattle.quorum.specs.declared.Place.{Place}
 use Rattle.quorum.specs.declared.Place.the-variants.{At, Nowhere}

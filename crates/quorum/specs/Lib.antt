@@ -1,5 +1,3 @@
-pub mod Tests
-pub mod Bytes
 pub mod Sets
 pub mod Configurations
 pub mod Inner

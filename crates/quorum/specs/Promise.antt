@@ -1,6 +1,6 @@
 -- What the crate promises of its definitions of sets and configurations. The crates above rely on this record and on the
--- contracts alone for both. `Tests`, `Bytes` and `validTo` are vocabulary that they share with this crate, and use as it is defined.
--- The crate `validity`, the code of one of the tests, belongs to this layer and opens the definitions.
+-- contracts alone for both; `validTo` is vocabulary that they use as it is defined. The crate `validity`, the code of one of the tests,
+-- belongs to this layer and opens the definitions.
 use mathlib.Core.Path.{_≡_}
 use mathlib.Core.Bool.{true, false, not, _&&_, _||_}
 use mathlib.Core.List.{List}
@@ -8,15 +8,12 @@ use mathlib.Core.Logic.{_↔_}
 use Prim.Native.Nat.{ℕ, suc, _≤_, _<_}
 use lib.Dec.{ltb, eqb}
 use lib.ListN.{length}
+use Rattle.basics.specs.Tests.{Some}
 use Rattle.quorum.specs.Sets.{member, used, holds, shares, within, join, unite, minus, remove, lowest, full}
 use Rattle.quorum.specs.Configurations.{readSet, writeSet, valid, holdsRead, holdsWrite, firstRead, firstWrite}
 use Rattle.quorum.specs.declared.Place.the-variants.{At, Nowhere}
 
 infix 50 _⊆_
--- some number below a bound has P
-abbrev pub Some : ℕ → (ℕ → Type 0) → Type 0
-Some n P = (i : ℕ) × (i < n) × P i
-
 -- every member of a is one of b
 abbrev pub _⊆_ : ℕ → ℕ → Type 0
 a ⊆ b = (i : ℕ) → member a i ≡ true → member b i ≡ true
@@ -70,6 +67,8 @@ pub record Promise : Type 0 where
   -- ---- validity
   pub valid-exactly : (n : ℕ) (c : List ℕ) → (valid n c ≡ true) ↔ Valid n c
   pub valid-stations : (n : ℕ) (c : List ℕ) → valid n c ≡ true → (1 ≤ n) × (n ≤ 16)
+  -- a side's first place is used
+  pub first-used : (n : ℕ) (side : ℕ → ℕ) → Side n side → used (side 0) ≡ true
   pub valid-length : (n : ℕ) (c : List ℕ) → valid n c ≡ true → length c ≡ 32
   -- a list of another length has no sets
   pub short-read : (c : List ℕ) (set : ℕ) → (length c ≡ 32 → ⊥) → holdsRead c set ≡ false
@@ -81,6 +80,7 @@ pub record Promise : Type 0 where
   pub member-minus : (a b i : ℕ) → member (minus a b) i ≡ (member a i && not (member b i))
   pub member-remove : (a i k : ℕ) → member (remove a k) i ≡ (member a i && not (eqb i k))
   pub member-full : (n i : ℕ) → n ≤ 16 → member (full n) i ≡ ltb i n
+  pub full-16 : 65535 ≡ full 16
   -- a set is used exactly if it has a member, and sets with the same members are equal
   pub used-member : (a : ℕ) → (used a ≡ true) ↔ ((i : ℕ) × (member a i ≡ true))
   pub same-members : (a b : ℕ) → a ⊆ b → b ⊆ a → a ≡ b

@@ -2,9 +2,9 @@
 ghost use mathlib.Core.Path.{_≡_};
 ghost use Prim.Native.Nat.{_<_, _≤_};
 ghost use lib.ListN.{length};
-ghost use Rattle.quorum.specs.Sets.{member, holds, shares, within, join, unite, minus, remove, lowest, full};
-ghost use Rattle.quorum.specs.Configurations.{setAt, holdsRead, holdsWrite, firstRead, firstWrite};
-ghost use Rattle.quorum.specs.Inner.{placeHeld, anyHeld, firstHeld};
+ghost use Rattle.quorum.specs.Sets.{member, shares, within, join, unite, minus, remove, lowest, full};
+ghost use Rattle.quorum.specs.Configurations.{setAt, holdsPlace, holdsRead, holdsWrite, firstRead, firstWrite};
+ghost use Rattle.quorum.specs.Inner.{anyHeld, firstHeld};
 
 // Where a search over the places of a side ends.
 pub enum Place {
@@ -21,13 +21,6 @@ pub fn is_member(set: u16, station: usize) -> bool
     } else {
         false
     }
-}
-
-// Whether the set holds every station of the other.
-pub fn holds_set(set: u16, other: u16) -> bool
-    ensures { λ r. ⌜ r ≡ holds set other ⌝ }
-{
-    set & other == other
 }
 
 // Whether the two sets share a station.
@@ -101,19 +94,6 @@ pub fn all_stations(n: usize) -> u16
     if n < 16 { (1u16 << n) - 1 } else { 65535 }
 }
 
-// The set at a place of a configuration; 0, as at an unused place, where there is none.
-pub fn set_at(config: &[u8], place: usize) -> u16
-    ensures { λ r. ⌜ r ≡ setAt (now (config .entry)) place ⌝ }
-{
-    if config.len() != 32 {
-        return 0;
-    }
-    if 16 <= place {
-        return 0;
-    }
-    load_set(config, place)
-}
-
 // The set at a place of a configuration of 32 bytes.
 pub fn load_set(config: &[u8], place: usize) -> u16
     requires { ⌜ (place < 16) × (length (now config) ≡ 32) ⌝ }
@@ -126,7 +106,7 @@ pub fn load_set(config: &[u8], place: usize) -> u16
 // Whether the set at a place is used and held by the set.
 fn place_held(config: &[u8], place: usize, set: u16) -> bool
     requires { ⌜ (place < 16) × (length (now config) ≡ 32) ⌝ }
-    ensures { λ r. ⌜ r ≡ placeHeld (now (config .entry)) place set ⌝ }
+    ensures { λ r. ⌜ r ≡ holdsPlace (setAt (now (config .entry))) set place ⌝ }
 {
     let other = load_set(config, place);
     (other != 0) & (set & other == other)

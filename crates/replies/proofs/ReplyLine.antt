@@ -4,19 +4,19 @@ use mathlib.Core.List.{List, [], _∷_, _++_}
 use Prim.Native.Nat.{ℕ, _%_, _<_}
 use lib.ListN.{length, replicate, length-append}
 use Rattle.layout.specs.Updates.{bytesOf, over}
+use Rattle.layout.proofs.Numbers.{number-one}
 use Rattle.layout.proofs.Parts.{length-bytes, read-bytes, bytes-of, bytes-append}
 use Rattle.rules.specs.declared.Reply.{Reply}
 use Rattle.frames.specs.Hex.{bytesIn, hexOf}
-use Rattle.quorum.specs.Bytes.{AreBytes, number}
+use Rattle.basics.specs.Bytes.{AreBytes, number}
 use Rattle.frames.proofs.Digits.{byte-halves, hex-length}
-use Rattle.frames.proofs.Values.{one-byte}
-use Rattle.replies.specs.ReplyLine.{lineEnd, replyBytes, replyLine, Showable, Shows}
+use Rattle.replies.specs.ReplyLine.{replySize, lineEnd, replyBytes, replyLineSize, replyLine, Showable, Shows}
 
-pub reply-bytes-length : (call : ℕ) (r : Reply) → length (replyBytes call r) ≡ 26
+pub reply-bytes-length : (call : ℕ) (r : Reply) → length (replyBytes call r) ≡ replySize
 unfolding replyBytes
 reply-bytes-length call r = simp (length-append, length-bytes)
 
-pub reply-length : (call : ℕ) (r : Reply) → length (replyLine call r) ≡ 53
+pub reply-length : (call : ℕ) (r : Reply) → length (replyLine call r) ≡ replyLineSize
 unfolding replyLine
 reply-length call r = simp (length-append, hex-length, reply-bytes-length)
 
@@ -46,7 +46,7 @@ reply-are-bytes call r c =
 shown : (call : ℕ) (r : Reply) → Showable r → Shows (replyBytes call r) call r
 unfolding replyBytes bytesOf
 shown call r h = (
-  one-byte call,
+  number-one (replyBytes call r) 0,
   read-bytes 1 (r .number) (h .0),
   read-bytes 8 (r .first) (h .1),
   read-bytes 8 (r .second) (h .2),

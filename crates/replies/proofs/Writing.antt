@@ -1,41 +1,15 @@
--- A number written byte by byte, and bytes written as characters.
+-- Bytes written as characters.
 use mathlib.Core.Path.{_≡_, refl, sym, ap, _∙_}
 use mathlib.Core.List.{List, [], _∷_, _++_}
-use Prim.Native.Nat.{ℕ, suc, _+_, _-_, _*_, _/_, _%_, _≤_, _<_}
+use Prim.Native.Nat.{ℕ, suc, _+_, _*_, _/_, _%_, _≤_, _<_}
 use native.Mathlib.Omega.{arith}
-use native.Mathlib.Nat.{add-zero}
 use native.Mathlib.Numerals.{add-one}
 use lib.ListN.{length, getD, take, set, length-set, length-append}
 use lib.Seq.{take-suc, take-all, length-take-le}
-use Rattle.layout.specs.Updates.{bytesOf, over}
+use Rattle.layout.specs.Updates.{over}
 use Rattle.layout.proofs.Parts.{over-cons, over-nil, over-append}
 use Rattle.frames.specs.Hex.{digitOf, hexOf}
 use Rattle.frames.proofs.Digits.{hex-length}
-
--- ---- a number: k of its bytes are written, and the rest of it is to come
-abbrev pub Writes : List ℕ → ℕ → ℕ → List ℕ → ℕ → ℕ → Type 0
-Writes old at x bytes rest k =
-    (k ≤ 8) × (length bytes ≡ length old) × (over old at (bytesOf 8 x) ≡ over bytes (at + k) (bytesOf (8 - k) rest))
-
-pub write-start : (old : List ℕ) (at x : ℕ) → Writes old at x old x 0
-write-start old at x = (omega arith, refl, rw (add-zero at))
-
-pub write-turn : (old : List ℕ) (at x : ℕ) (bytes : List ℕ) (rest k : ℕ) → at + 8 ≤ length old → k < 8 → Writes old at x bytes rest k
-    → Writes old at x (set bytes (at + k) (rest % 256)) (rest / 256) (k + 1)
-unfolding bytesOf
-write-turn old at x bytes rest k h l w =
-    let n : 8 - k ≡ suc (8 - (k + 1)) = omega arith in
-    let e : suc (at + k) ≡ at + (k + 1) = omega arith in
-    let i : at + k < length bytes = omega (arith, w .1) in (
-      omega arith,
-      rw length-set (w .1),
-      w .2 ∙ rw n (over-cons bytes (at + k) (rest % 256) (bytesOf (8 - (k + 1)) (rest / 256)) i ∙ rw e),
-    )
-
-pub write-end : (old : List ℕ) (at x : ℕ) (bytes : List ℕ) (rest k : ℕ) → 8 ≤ k → Writes old at x bytes rest k
-    → bytes ≡ over old at (bytesOf 8 x)
-unfolding bytesOf
-write-end old at x bytes rest k h w = let e : 8 - k ≡ 0 = omega (arith, w .0) in sym (w .2 ∙ rw e (over-nil bytes (at + k)))
 
 -- ---- bytes as characters: those of k bytes are written
 abbrev pub Shown : List ℕ → ℕ → List ℕ → ℕ → List ℕ → Type 0

@@ -1,14 +1,17 @@
 -- Reply lines (document 01, "Frames").
 use mathlib.Core.Path.{_≡_}
 use mathlib.Core.List.{List, [], _∷_, _++_}
-use Prim.Native.Nat.{ℕ, _<_}
-use Rattle.quorum.specs.Bytes.{number}
+use Prim.Native.Nat.{ℕ, _+_, _*_, _<_}
+use Rattle.basics.specs.Bytes.{number}
 use Rattle.layout.specs.Updates.{bytesOf}
 use Rattle.rules.specs.Passed.{Word}
 use Rattle.rules.specs.declared.Reply.{Reply}
 use Rattle.frames.specs.Hex.{hexOf}
 
 -- "A reply is the call byte, the number, three figures of 8 bytes."
+abbrev pub replySize : ℕ
+replySize = 26
+
 unfoldable pub replyBytes : ℕ → Reply → List ℕ
 replyBytes call r =
     call ∷ (bytesOf 1 (r .number) ++ (bytesOf 8 (r .first) ++ (bytesOf 8 (r .second) ++ bytesOf 8 (r .third))))
@@ -16,6 +19,10 @@ replyBytes call r =
 -- "A line ends with byte 0A, read or printed."
 abbrev pub lineEnd : ℕ
 lineEnd = 10
+
+-- two characters a byte, and the line end
+abbrev pub replyLineSize : ℕ
+replyLineSize = 2 * replySize + 1
 
 unfoldable pub replyLine : ℕ → Reply → List ℕ
 replyLine call r = hexOf (replyBytes call r) ++ (lineEnd ∷ [])

@@ -2,45 +2,43 @@
 ghost use mathlib.Core.Path.{_≡_};
 ghost use Prim.Native.Nat.{_+_, _≤_};
 ghost use lib.ListN.{length};
-ghost use Rattle.layout.specs.Updates.{bytesOf, over};
-ghost use Rattle.replies.specs.ReplyLine.{replyBytes, replyLine};
+ghost use Rattle.layout.specs.Updates.{over};
+ghost use Rattle.replies.specs.ReplyLine.{replyBytes, replyLine, replyLineSize};
 use frames::hex;
 use rules::Reply;
+use table::number::put_u64;
 
-// A number in eight bytes, least significant byte first.
-fn put_number(bytes: &mut [u8], at: usize, x: u64)
-    requires { ⌜ at + 8 ≤ length (now bytes) ⌝ }
-    ensures { λ _. ⌜ now (bytes .exit) ≡ over (now (bytes .entry)) at (bytesOf 8 x) ⌝ }
-{
-    let mut rest = x;
-    for k in 0..8usize {
-        bytes[at + k] = (rest % 256) as u8;
-        rest = rest / 256;
-    }
-}
+// The bytes of a reply.
+const REPLY_SIZE: usize = 26;
 
-fn reply_bytes(call: u8, r: Reply) -> [u8; 26]
+// The characters of a reply line, its end with them.
+pub const REPLY_LINE_SIZE: usize = 53;
+
+// "A line ends with byte 0A, read or printed."
+pub const LINE_END: u8 = 10;
+
+fn reply_bytes(call: u8, r: Reply) -> [u8; REPLY_SIZE]
     ensures { λ b. ⌜ b ≡ replyBytes call r ⌝ }
 {
-    let mut bytes = [0u8; 26];
+    let mut bytes = [0u8; REPLY_SIZE];
     bytes[0] = call;
     bytes[1] = (r.number % 256) as u8;
-    put_number(&mut bytes, 2, r.first);
-    put_number(&mut bytes, 10, r.second);
-    put_number(&mut bytes, 18, r.third);
+    put_u64(&mut bytes, 2, r.first);
+    put_u64(&mut bytes, 10, r.second);
+    put_u64(&mut bytes, 18, r.third);
     bytes
 }
 
 // The reply line, its end with it, from a place of the output on.
 pub fn write_reply(call: u8, r: Reply, out: &mut [u8], at: usize)
-    requires { ⌜ at + 53 ≤ length (now out) ⌝ }
+    requires { ⌜ at + replyLineSize ≤ length (now out) ⌝ }
     ensures { λ _. ⌜ now (out .exit) ≡ over (now (out .entry)) at (replyLine call r) ⌝ }
 {
     let bytes = reply_bytes(call, r);
-    for k in 0..26usize {
+    for k in 0..REPLY_SIZE {
         let byte = bytes[k];
         out[at + 2 * k] = hex::high_digit(byte);
         out[at + 2 * k + 1] = hex::low_digit(byte);
     }
-    out[at + 52] = 10;
+    out[at + 2 * REPLY_SIZE] = LINE_END;
 }

@@ -1,2 +1,2 @@
 pub mod Round
-pub mod Found
+pub mod Heard

@@ -1,24 +1,32 @@
--- The station sets of the open round as the code's value `Round`, and what its methods give.
-use mathlib.Core.Bool.{Bool, cond}
+-- The code's value `Round`: that of a table, and the definitions' round that it stands for.
 use mathlib.Core.List.{List}
 use Prim.Native.Nat.{ℕ}
-use Rattle.quorum.specs.Sets.{join, remove}
-use Rattle.layout.specs.Fields.{roundOf}
+use Rattle.basics.specs.Bytes.{number}
+use Rattle.layout.specs.Layout.{kindAt}
+use Rattle.layout.specs.Fields.{kindOf, roundOf}
+use Rattle.layout.specs.Fields.{Round as RoundOfTable}
 use Rattle.rounds.specs.declared.round.Round.{Round}
 
 abbrev pub roundIn : List ℕ → Round
-roundIn t = record { polled = roundOf t .polled; «data_puts» = roundOf t .dataPuts; «config_puts» = roundOf t .configPuts }
-
-abbrev pub polledAt : Round → ℕ → Round
-polledAt r s = record { polled = join (r .polled) s; «data_puts» = r .«data_puts»; «config_puts» = r .«config_puts» }
-
-abbrev pub putAt : Round → ℕ → Bool → Round
-putAt r s data? =
+roundIn t =
     record {
-      polled = r .polled;
-      «data_puts» = cond data? (join (r .«data_puts») s) (r .«data_puts»);
-      «config_puts» = cond data? (r .«config_puts») (join (r .«config_puts») s);
+      kind = number t kindAt 1;
+      item = roundOf t .item;
+      polled = roundOf t .polled;
+      «data_puts» = roundOf t .dataPuts;
+      «config_puts» = roundOf t .configPuts;
+      value = roundOf t .value;
+      target = roundOf t .target;
     }
 
-abbrev pub droppedAt : Round → ℕ → Round
-droppedAt r s = record { polled = r .polled; «data_puts» = remove (r .«data_puts») s; «config_puts» = remove (r .«config_puts») s }
+abbrev pub asRound : Round → RoundOfTable
+asRound r =
+    record {
+      kind = kindOf (r .kind);
+      item = r .item;
+      polled = r .polled;
+      dataPuts = r .«data_puts»;
+      configPuts = r .«config_puts»;
+      value = r .value;
+      target = r .target;
+    }

@@ -1,3 +1,3 @@
-// The open round: its station sets, and what its polled copies give.
-pub mod newest;
+// The open round as a value, and whether a round is heard.
+pub mod heard;
 pub mod round;

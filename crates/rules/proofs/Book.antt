@@ -1,4 +1,4 @@
--- The table follows the book: what holds of a table's view and the book after every call, and that every call keeps it.
+-- The table follows the book: what holds of a table's view and the book after every call, and that a lay and a commit keep it.
 use mathlib.Core.Path.{_≡_, refl, _∙_}
 use mathlib.Core.Bool.{Bool, true, false, _&&_}
 use mathlib.Core.List.{List}
@@ -8,20 +8,24 @@ use lib.ListN.{length, length-set, length-replicate, getD-replicate}
 use lib.Seq.{getD-set-same, getD-set-other}
 use lib.Dec.{eqb}
 use borrow.Author.Tests.{eqb-true, eqb-false}
+use Rattle.basics.proofs.Tests.{clash, by-cases, and-left, and-right}
 use Rattle.quorum.specs.Sets.{member}
 use Rattle.quorum.specs.Configurations.{valid, holdsWrite}
-use Rattle.quorum.proofs.Tests.{clash, by-cases, and-left, and-right}
-use Rattle.layout.specs.Fields.{Copy, Kind}
+use Rattle.layout.specs.Fields.{Copy, Kind, Round}
 use Rattle.layout.specs.Fields.{none as noRound, read as readRound, write as writeRound, change as changeRound}
-use Rattle.layout.specs.View.{State}
-use Rattle.rules.specs.Calls.{Call, lay, openRead, openWrite, openChange, poll, put, commit, abandon, link, reach}
-use Rattle.rules.specs.Newest.{own, foundByVersion, foundByGeneration, heard}
+use Rattle.layout.specs.View.{State, own, foundByVersion, foundByGeneration, heard}
+use Rattle.layout.proofs.Soundness.{RoundFacts, StateSound}
+use Rattle.layout.proofs.Stored.{stored}
+use Rattle.rules.specs.Calls.{lay, commit}
 use Rattle.rules.specs.Rules.{idle, written}
 use Rattle.rules.specs.Figures.{Figures, closing}
+use Rattle.rules.specs.After.{stores}
 use Rattle.rules.specs.Book.{Entry, Noted, none, read, write, change, Book, started, entry, finish, step}
-use Rattle.rules.proofs.Copies.{Kept, Current, heard-current, kept-same, kept-laid, bothPut, kept-read-commit, kept-write-commit, kept-change-commit}
-use Rattle.rules.proofs.Stored.{stored}
-use Rattle.rules.proofs.Views.{Like, next}
+use Rattle.rules.proofs.Judged.{a-round}
+use Rattle.rules.proofs.Copies.{Kept, Current, heard-current, kept-same, kept-laid, bothPut}
+use Rattle.rules.proofs.Copies.{kept-read-commit, kept-write-commit, kept-change-commit}
+use Rattle.rules.proofs.States.{next}
+use Rattle.rules.proofs.Views.{Like}
 
 -- the round of a table as the book notes it
 abbrev pub notedOf : Kind → ℕ → ℕ → Noted
@@ -40,7 +44,7 @@ pub record Follows (v : State) (b : Book) : Type 0 where
   pub entries : length (b .items) ≡ 32
 
 -- it speaks of the items and stations of the table only
-follows-like : (v w : State) (b : Book) → Like v w → Follows w b → Follows v b
+pub follows-like : (v w : State) (b : Book) → Like v w → Follows w b → Follows v b
 follows-like v w b l inv =
     record {
       kept = rw (l .n, l .m) (λ j h. kept-same (w .n) (w .copies j) (v .copies j) _ _ _ (λ s q. l .copies j s h q) (inv .kept j h));
@@ -48,7 +52,7 @@ follows-like v w b l inv =
       entries = inv .entries;
     }
 
-keep-laid : (v : State) (b : Book) (n m value : ℕ) (config : List ℕ) → valid n config ≡ true → m ≤ 32
+pub keep-laid : (v : State) (b : Book) (n m value : ℕ) (config : List ℕ) → valid n config ≡ true → m ≤ 32
     → Follows (next v (lay n m value config)) (step b (lay n m value config))
 keep-laid v b n m value config h q =
     record {
@@ -58,17 +62,6 @@ keep-laid v b n m value config h q =
     }
 
 -- ---- a commit that is done
--- what its tests have shown
-pub record Commits (v : State) : Type 0 where
-  pub busy : idle (v .round .kind) ≡ false
-  pub listens : heard v ≡ true
-  pub suffices : written v (v .round .kind) ≡ true
-  pub item : v .round .item < v .m
-  pub items : v .m ≤ 32
-  pub valids : (s : ℕ) → s < v .n → valid (v .n) (own v s .config) ≡ true
-  -- no configuration puts in a read or a write
-  pub noConfig : (v .round .kind ≡ changeRound → ⊥) → v .round .configPuts ≡ 0
-
 -- the entry of the round's item after the commit
 abbrev entryAfter : Kind → ℕ → Entry → Entry
 entryAfter noRound x e = e
@@ -77,39 +70,39 @@ entryAfter writeRound x e = record { value = x; writes = e .writes + 1; changes 
 entryAfter changeRound x e = record { value = e .value; writes = e .writes; changes = e .changes + 1 }
 
 -- its figures are that entry, and the copies follow it
-record Done (v : State) (f : Figures) (e : Entry) : Type 0 where
+record Finished (v : State) (f : Figures) (e : Entry) : Type 0 where
   value : f .first ≡ e .value
   writes : f .second ≡ e .writes
   changes : f .third ≡ e .changes
-  kept : KeptFor (v .n) (bothPut (own v) (v .round .dataPuts) (v .round .configPuts) f (v .round .target)) e
+  kept : KeptFor (v .n) (bothPut (own v) (v .round .dataPuts) (v .round .configPuts) (stores f (v .round .target))) e
 
 module _ (v : State) (e : Entry) (k : KeptFor (v .n) (own v) e)
     (x : Current (foundByVersion v) (foundByGeneration v) (e .value) (e .writes) (e .changes) (k .config)) where
-  done : (kind : Kind) → idle kind ≡ false → written v kind ≡ true → ((kind ≡ changeRound → ⊥) → v .round .configPuts ≡ 0)
-      → Done v (closing v kind) (entryAfter kind (v .round .value) e)
-  done noRound i q z = clash refl i
-  done readRound i q z =
+  finished : (kind : Kind) → idle kind ≡ false → written v kind ≡ true → ((kind ≡ changeRound → ⊥) → v .round .configPuts ≡ 0)
+      → Finished v (closing v kind) (entryAfter kind (v .round .value) e)
+  finished noRound i q z = clash refl i
+  finished readRound i q z =
       record {
         value = x .value;
         writes = x .version;
         changes = x .generation;
-        kept = kept-read-commit (v .n) (own v) _ _ _ k (v .round .dataPuts) (v .round .configPuts) (closing v readRound) (v .round .target)
+        kept = kept-read-commit (v .n) (own v) _ _ _ k (v .round .dataPuts) (v .round .configPuts) (stores (closing v readRound) (v .round .target))
             (z (λ p. let r : _≡_ {A = ℕ} 0 1 = cc in omega arith)) (x .value) (x .version);
       }
-  done writeRound i q z =
+  finished writeRound i q z =
       record {
         value = refl;
         writes = rw (x .version);
         changes = x .generation;
-        kept = kept-write-commit (v .n) (own v) _ _ _ k (v .round .dataPuts) (v .round .configPuts) (closing v writeRound) (v .round .target)
+        kept = kept-write-commit (v .n) (own v) _ _ _ k (v .round .dataPuts) (v .round .configPuts) (stores (closing v writeRound) (v .round .target))
             (z (λ p. let r : _≡_ {A = ℕ} 0 1 = cc in omega arith)) (rw (x .version)) (rw (x .config) at q);
       }
-  done changeRound i q z =
+  finished changeRound i q z =
       record {
         value = x .value;
         writes = x .version;
         changes = rw (x .generation);
-        kept = kept-change-commit (v .n) (own v) _ _ _ k (v .round .dataPuts) (v .round .configPuts) (closing v changeRound) (v .round .target)
+        kept = kept-change-commit (v .n) (own v) _ _ _ k (v .round .dataPuts) (v .round .configPuts) (stores (closing v changeRound) (v .round .target))
             (x .value) (x .version) (rw (x .generation)) (rw (x .config) at (and-right (holdsWrite (v .round .target) (v .round .dataPuts)) _ q)) (and-left _ _ q);
       }
 
@@ -133,7 +126,15 @@ module _ (items : List Entry) (i x : ℕ) (l : i < length items) where
   entries-kept writeRound = length-set items i _
   entries-kept changeRound = length-set items i _
 
-module _ (v : State) (b : Book) (inv : Follows v b) (t : Commits v) where
+-- "in a read both put sets .. are zero; in a write the configuration puts .. are zero"
+no-config-puts : (n : ℕ) (r : Round) (k : Kind) → RoundFacts n r k → (k ≡ changeRound → ⊥) → r .configPuts ≡ 0
+no-config-puts n r noRound f h = f .3
+no-config-puts n r readRound f h = f .1
+no-config-puts n r writeRound f h = f .0
+no-config-puts n r changeRound f h = absurd (h refl)
+
+module _ (v : State) (b : Book) (inv : Follows v b) (sound : StateSound v) (open? : v .round .kind ≡ noRound → ⊥) (listens : heard v ≡ true)
+    (suffices : written v (v .round .kind) ≡ true) where
   abbrev i : ℕ
   i = v .round .item
 
@@ -141,15 +142,16 @@ module _ (v : State) (b : Book) (inv : Follows v b) (t : Commits v) where
   k = v .round .kind
 
   listed : i < length (b .items)
-  listed = let p = t .item in let q = t .items in rw (inv .entries) (omega arith)
+  listed = let p = sound .item in let q = sound .fewItems in rw (inv .entries) (omega arith)
 
   abbrev after : Entry
   after = entryAfter k (v .round .value) (entry (b .items) i)
 
-  result : Done v (closing v k) after
+  result : Finished v (closing v k) after
   result =
-      let kept = inv .kept i (t .item) in
-      done v (entry (b .items) i) kept (heard-current (v .n) (own v) _ _ _ (v .round .polled) kept (t .valids) (t .listens)) k (t .busy) (t .suffices) (t .noConfig)
+      let kept = inv .kept i (sound .item) in
+      let current = heard-current (v .n) (own v) _ _ _ (v .round .polled) kept (λ s l. sound .configs i s (sound .item) l) listens in
+      finished v (entry (b .items) i) kept current k (a-round k .1 open?) suffices (no-config-puts (v .n) (v .round) k (sound .round))
 
   pub entry-after : entry (step b commit .items) i ≡ after
   entry-after = rw (inv .noted) (entry-own (b .items) i (v .round .value) listed k)
@@ -160,7 +162,7 @@ module _ (v : State) (b : Book) (inv : Follows v b) (t : Commits v) where
   -- the puts go to the copies of the round's item alone
   abbrev copies : Bool → ℕ → ℕ → Copy
   copies own? j s =
-      stored (own? && member (v .round .dataPuts) s) (own? && member (v .round .configPuts) s) (closing v k) (v .round .target) (v .copies j s)
+      stored (own? && member (v .round .dataPuts) s) (own? && member (v .round .configPuts) s) (stores (closing v k) (v .round .target)) (v .copies j s)
 
   kept-after : (j : ℕ) → j < v .m → KeptFor (v .n) (copies (eqb j i) j) (entry (step b commit .items) j)
   kept-after j h =
@@ -175,37 +177,3 @@ module _ (v : State) (b : Book) (inv : Follows v b) (t : Commits v) where
         noted = refl;
         entries = rw (inv .noted) (entries-kept (b .items) i (v .round .value) listed k) ∙ inv .entries;
       }
-
--- ---- every call that is done keeps it
--- what the tests of a call that is done have shown, as far as the book needs it
-abbrev pub Tested : State → Call → Type 0
-Tested v (lay n m value config) = (valid n config ≡ true) × (m ≤ 32)
-Tested v (openRead i) = Unit {0}
-Tested v (openWrite i value) = Unit {0}
-Tested v (openChange i target) = Unit {0}
-Tested v (poll s) = Unit {0}
-Tested v (put s sort) = Unit {0}
-Tested v commit = Commits v
-Tested v abandon = Unit {0}
-Tested v (link s state) = Unit {0}
-Tested v (reach i) = Unit {0}
-
-keep-next : (v : State) (b : Book) (c : Call) → Tested v c → Follows v b → Follows (next v c) (step b c)
-keep-next v b (lay n m value config) t inv = keep-laid v b n m value config (t .0) (t .1)
-keep-next v b (openRead i) t inv = record { kept = inv .kept; noted = refl; entries = inv .entries }
-keep-next v b (openWrite i value) t inv = record { kept = inv .kept; noted = refl; entries = inv .entries }
-keep-next v b (openChange i target) t inv = record { kept = inv .kept; noted = refl; entries = inv .entries }
-keep-next v b (poll s) t inv = record { kept = inv .kept; noted = inv .noted; entries = inv .entries }
-keep-next v b (put s sort) t inv = record { kept = inv .kept; noted = inv .noted; entries = inv .entries }
-keep-next v b commit t inv = keep-commit v b inv t
-keep-next v b abandon t inv = record { kept = inv .kept; noted = refl; entries = inv .entries }
-keep-next v b (link s state) t inv = record { kept = inv .kept; noted = inv .noted; entries = inv .entries }
-keep-next v b (reach i) t inv = inv
-
-pub keep : (v w : State) (b : Book) (c : Call) → Like w (next v c) → Tested v c → Follows v b → Follows w (step b c)
-keep v w b c l t inv = follows-like w (next v c) (step b c) l (keep-next v b c t inv)
-
-pub start : (v w : State) (b : Book) (n m value : ℕ) (config : List ℕ) → Like w (next v (lay n m value config)) → Tested v (lay n m value config)
-    → Follows w (step b (lay n m value config))
-start v w b n m value config l t =
-    follows-like w (next v (lay n m value config)) (step b (lay n m value config)) l (keep-laid v b n m value config (t .0) (t .1))

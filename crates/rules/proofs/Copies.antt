@@ -9,14 +9,13 @@ use lib.Dec.{ltb}
 use borrow.Author.Tests.{ltb-true, ltb-false}
 use Rattle.quorum.specs.Sets.{member, full}
 use Rattle.quorum.specs.Configurations.{valid, holdsRead, holdsWrite}
-use Rattle.quorum.proofs.Tests.{by-cases}
+use Rattle.basics.proofs.Tests.{by-cases}
 use Rattle.quorum.proofs.Promise.{promise}
 use Rattle.layout.specs.Fields.{Copy}
-use Rattle.rules.specs.Newest.{byVersion, byGeneration, hears}
-use Rattle.rules.specs.Figures.{Figures}
-use Rattle.rules.specs.Demand2.{Newest}
-use Rattle.rules.proofs.Newest.{heard-finds}
-use Rattle.rules.proofs.Stored.{stored}
+use Rattle.layout.specs.Newest.{byVersion, byGeneration, hears}
+use Rattle.layout.specs.Newest.{IsNewest}
+use Rattle.layout.proofs.Newer.{heard-finds}
+use Rattle.layout.proofs.Stored.{stored}
 
 -- some write quorum of the configuration, all of whose replicas have P: the witness is a station set that holds a write set
 pub record Quorum (n : ℕ) (config : List ℕ) (P : ℕ → Type 0) : Type 0 where
@@ -78,7 +77,7 @@ pub record Current (byV byG : Copy) (v w g : ℕ) (c : List ℕ) : Type 0 where
 module _ (n : ℕ) (cs : ℕ → Copy) (v w g polled : ℕ) (k : Kept n cs v w g) (ok : (s : ℕ) → s < n → valid n (cs s .config) ≡ true) where
   -- the polled copy with the newest generation, heard by its own configuration, has the current generation: were it older, a
   -- polled copy of 5.5.1 (1)(a)'s write quorum would be newer
-  current-generation : (b : ℕ) → Newest (λ s. cs s .generation) polled n b → holdsRead (cs b .config) polled ≡ true → cs b .generation ≡ g
+  current-generation : (b : ℕ) → IsNewest (λ s. cs s .generation) polled n b → holdsRead (cs b .config) polled ≡ true → cs b .generation ≡ g
   current-generation b t r =
       by-cases (λ (x : Bool). ltb (cs b .generation) g ≡ x → cs b .generation ≡ g) (ltb (cs b .generation) g)
       (λ _ e. let q = k .superseded b (t .station) (ltb-true _ _ e) in
@@ -125,8 +124,8 @@ configPut cs c generation config s =
     }
 
 -- both, as a commit stores them
-abbrev pub bothPut : (ℕ → Copy) → ℕ → ℕ → Figures → List ℕ → ℕ → Copy
-bothPut cs d c f target s = stored (member d s) (member c s) f target (cs s)
+abbrev pub bothPut : (ℕ → Copy) → ℕ → ℕ → Copy → ℕ → Copy
+bothPut cs d c new s = stored (member d s) (member c s) new (cs s)
 
 module _ (n : ℕ) (cs : ℕ → Copy) (v w g : ℕ) (k : Kept n cs v w g) where
   -- the version and value that are there already, stored anywhere
@@ -166,7 +165,8 @@ module _ (n : ℕ) (cs : ℕ → Copy) (v w g : ℕ) (k : Kept n cs v w g) where
   kept-config c config q x =
       record {
         config = config;
-        generations = λ s b. by-cases (λ (t : Bool). cond t (g + 1) (cs s .generation) ≤ g + 1) (member c s) (λ _. omega arith) (λ _. omega (arith, k .generations s b));
+        generations = λ s b. by-cases (λ (t : Bool). cond t (g + 1) (cs s .generation) ≤ g + 1) (member c s) (λ _. omega arith)
+            (λ _. omega (arith, k .generations s b));
         superseded = λ s b. by-cases
             (λ (t : Bool). cond t (g + 1) (cs s .generation) < g + 1
             → Quorum n (cond t config (cs s .config)) (λ u. cond t (g + 1) (cs s .generation) < cond (member c u) (g + 1) (cs u .generation)))
@@ -199,18 +199,20 @@ module _ (n : ℕ) (cs : ℕ → Copy) (v w g : ℕ) (k : Kept n cs v w g) where
 no-config : (n : ℕ) (cs : ℕ → Copy) (generation : ℕ) (config : List ℕ) (v w g : ℕ) → Kept n cs v w g → Kept n (configPut cs 0 generation config) v w g
 no-config n cs generation config v w g k = kept-same n cs (configPut cs 0 generation config) v w g (λ s b. rw (promise .member-empty s)) k
 
-module _ (n : ℕ) (cs : ℕ → Copy) (v w g : ℕ) (k : Kept n cs v w g) (d c : ℕ) (f : Figures) (target : List ℕ) where
-  pub kept-read-commit : c ≡ 0 → f .first ≡ v → f .second ≡ w → Kept n (bothPut cs d c f target) v w g
+module _ (n : ℕ) (cs : ℕ → Copy) (v w g : ℕ) (k : Kept n cs v w g) (d c : ℕ) (new : Copy) where
+  pub kept-read-commit : c ≡ 0 → new .value ≡ v → new .version ≡ w → Kept n (bothPut cs d c new) v w g
   kept-read-commit e p q =
-      rw (e, p, q) (no-config n (dataPut cs d w v) (f .third) target v w g (kept-again n cs v w g k d))
+      rw (e, p, q) (no-config n (dataPut cs d w v) (new .generation) (new .config) v w g (kept-again n cs v w g k d))
 
-  pub kept-write-commit : c ≡ 0 → f .second ≡ w + 1 → holdsWrite (k .config) d ≡ true → Kept n (bothPut cs d c f target) (f .first) (w + 1) g
+  pub kept-write-commit : c ≡ 0 → new .version ≡ w + 1 → holdsWrite (k .config) d ≡ true → Kept n (bothPut cs d c new) (new .value) (w + 1) g
   kept-write-commit e q h =
-      rw (e, q) (no-config n (dataPut cs d (w + 1) (f .first)) (f .third) target (f .first) (w + 1) g (kept-write n cs v w g k d (f .first) h))
+      rw (e, q) (no-config n (dataPut cs d (w + 1) (new .value)) (new .generation) (new .config) (new .value) (w + 1) g
+      (kept-write n cs v w g k d (new .value) h))
 
   -- the newest version and value at a write quorum of the new configuration, that configuration at one of the old
-  pub kept-change-commit : f .first ≡ v → f .second ≡ w → f .third ≡ g + 1 → holdsWrite (k .config) c ≡ true → holdsWrite target d ≡ true
-      → Kept n (bothPut cs d c f target) v w (g + 1)
+  pub kept-change-commit : new .value ≡ v → new .version ≡ w → new .generation ≡ g + 1 → holdsWrite (k .config) c ≡ true
+      → holdsWrite (new .config) d ≡ true → Kept n (bothPut cs d c new) v w (g + 1)
   unfolding kept-again
   kept-change-commit p q r h x =
-      rw (p, q, r) (kept-config n (dataPut cs d w v) v w g (kept-again n cs v w g k d) c target h (record { set = d; writable = x; every = λ s b m. rw m }))
+      rw (p, q, r) (kept-config n (dataPut cs d w v) v w g (kept-again n cs v w g k d) c (new .config) h
+      (record { set = d; writable = x; every = λ s b m. rw m }))

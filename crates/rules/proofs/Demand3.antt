@@ -1,74 +1,82 @@
 -- Demand 3, by induction on the list: the table follows the book.
 use mathlib.Core.Path.{_≡_, refl, sym, ap, _∙_}
-use mathlib.Core.Bool.{false}
 use mathlib.Core.List.{List, [], _∷_}
 use Prim.Native.Nat.{ℕ, zero, suc}
 use native.Mathlib.Omega.{arith}
-use Rattle.quorum.specs.Bytes.{AreBytes}
-use Rattle.quorum.proofs.Tests.{clash}
+use Rattle.basics.specs.Bytes.{AreBytes}
+use Rattle.quorum.proofs.Promise.{promise}
 use Rattle.layout.specs.Fields.{Kind}
 use Rattle.layout.specs.Fields.{none as noRound, read as readRound, write as writeRound, change as changeRound}
-use Rattle.layout.specs.View.{view}
+use Rattle.layout.specs.View.{Table, view}
+use Rattle.layout.proofs.Soundness.{is-sound}
 use Rattle.rules.specs.Calls.{Call, lay, commit}
 use Rattle.rules.specs.Passed.{Passable}
-use Rattle.rules.specs.Rules.{idle}
 use Rattle.rules.specs.Figures.{figuresOf}
 use Rattle.rules.specs.Reply.{reply, after}
-use Rattle.rules.specs.Book.{Book, fed}
-use Rattle.rules.specs.Demand3.{NotedItem, of-read, of-write, of-change, Agrees, OneCopy, AllPassable, Demand3}
+use Rattle.rules.specs.Lists.{replies, AllPassable}
+use Rattle.rules.specs.Book.{Book, fed, step}
+use Rattle.rules.specs.Needs.{needs}
+use Rattle.rules.specs.Demand3.{NotedItem, of-read, of-write, of-change, Agrees, OneCopy, Demand3}
 use Rattle.rules.proofs.Demand1.{refusal-changes-nothing, reply-figures}
-use Rattle.rules.proofs.Lengths.{bytes-kept}
-use Rattle.rules.proofs.Views.{follows as next-view}
-use Rattle.rules.proofs.Tested.{tested}
-use Rattle.rules.proofs.Book.{Follows, notedOf, keep, start, entry-after, figures-after}
+use Rattle.rules.proofs.Laws.{commit-heard, commit-written, done-allowed, done-law, next-view, bytes-kept}
+use Rattle.rules.proofs.Book.{Follows, notedOf, follows-like, keep-laid, entry-after, figures-after}
 
-noted-item : (k : Kind) (i x : ℕ) → idle k ≡ false → NotedItem (notedOf k i x) i
-noted-item noRound i x e = clash refl e
+noted-item : (k : Kind) (i x : ℕ) → (k ≡ noRound → ⊥) → NotedItem (notedOf k i x) i
+noted-item noRound i x e = absurd (e refl)
 noted-item readRound i x e = of-read
 noted-item writeRound i x e = of-write
 noted-item changeRound i x e = of-change
 
 -- a commit that replies 0 agrees with the book
-agrees : (t : List ℕ) (b : Book) → AreBytes t → Follows (view t) b → reply t commit .number ≡ 0 → Agrees b (fed b commit (reply t commit .number)) (reply t commit)
-unfolding fed figuresOf
-agrees t b h inv e =
+pub agrees : (t : Table) (b : Book) → Follows (view t) b → reply t commit .number ≡ 0 → Agrees b (fed b commit (reply t commit .number)) (reply t commit)
+unfolding fed figuresOf needs
+agrees t b inv e =
     let v = view t in
-    let x = tested t commit e in
+    let a = done-allowed t commit e in
     let f = reply-figures t commit e in
-    let g = figures-after v b inv x in
-    let a = entry-after v b inv x in
+    let g = figures-after v b inv (is-sound t (a .0)) (a .1 .0) (commit-heard t a) (commit-written t a) in
+    let x = entry-after v b inv (is-sound t (a .0)) (a .1 .0) (commit-heard t a) (commit-written t a) in
     rw e (record {
       item = v .round .item;
-      noted = rw (inv .noted) (noted-item (v .round .kind) (v .round .item) (v .round .value) (x .busy));
-      value = f .0 ∙ g .0 ∙ ap (λ y. y .value) (sym a);
-      writes = f .1 ∙ g .1 ∙ ap (λ y. y .writes) (sym a);
-      changes = f .2 ∙ g .2 ∙ ap (λ y. y .changes) (sym a);
+      noted = rw (inv .noted) (noted-item (v .round .kind) (v .round .item) (v .round .value) (a .1 .0));
+      value = f .0 ∙ g .0 ∙ ap (λ y. y .value) (sym x);
+      writes = f .1 ∙ g .1 ∙ ap (λ y. y .writes) (sym x);
+      changes = f .2 ∙ g .2 ∙ ap (λ y. y .changes) (sym x);
     })
 
 -- every call keeps it, a refused one too
-goes-on : (t : List ℕ) (b : Book) (c : Call) → AreBytes t → Passable c → Follows (view t) b → Follows (view (after t c)) (fed b c (reply t c .number))
+pub goes-on : (t : Table) (b : Book) (c : Call) → AreBytes t → Passable c → Follows (view t) b → Follows (view (after t c)) (fed b c (reply t c .number))
 unfolding fed
 goes-on t b c h p inv = go (reply t c .number) refl
   where
     go : (k : ℕ) → reply t c .number ≡ k → Follows (view (after t c)) (fed b c (reply t c .number))
-    go zero e = rw e (keep (view t) (view (after t c)) b c (next-view t c h p e) (tested t c e) inv)
+    go zero e = rw e (follows-like _ _ (step b c) (next-view t c e h p) (done-law t c e .follows b inv))
     go (suc k) e = rw (refusal-changes-nothing t c (λ z. let q : suc k ≡ 0 = sym e ∙ z in omega arith), e) inv
 
-follows : (t : List ℕ) (b : Book) (calls : List Call) → AreBytes t → AllPassable calls → Follows (view t) b → OneCopy t b calls
-follows t b [] h p inv = tt
-follows t b (c ∷ calls) h p inv = (
-  λ q. rw q (agrees t b h inv),
-  follows (after t c) (fed b c (reply t c .number)) calls (bytes-kept t c h (p .0)) (p .1) (goes-on t b c h (p .0) inv),
+-- a lay that replies 0 begins it, whatever the book held
+pub begins : (t : Table) (b : Book) (n m value : ℕ) (config : List ℕ) → AreBytes t → Passable (lay n m value config)
+    → reply t (lay n m value config) .number ≡ 0 → Follows (view (after t (lay n m value config))) (step b (lay n m value config))
+unfolding needs
+begins t b n m value config h p e =
+    let c = lay n m value config in
+    let a = done-allowed t c e in
+    follows-like _ _ (step b c) (next-view t c e h p) (keep-laid (view t) b n m value config (promise .valid-exactly n config .1 (a .1 .1 .0)) (a .0 .3))
+
+one-copy : (t : Table) (b : Book) (calls : List Call) → AreBytes t → AllPassable calls → Follows (view t) b → OneCopy b calls (replies t calls)
+unfolding replies
+one-copy t b [] h p inv = tt
+one-copy t b (c ∷ calls) h p inv = (
+  λ q. rw q (agrees t b inv),
+  one-copy (after t c) (fed b c (reply t c .number)) calls (bytes-kept t c h (p .0)) (p .1) (goes-on t b c h (p .0) inv),
 )
 
 pub demand3 : Demand3
-unfolding fed
+unfolding fed replies
 demand3 =
     record {
       one-copy = λ t b n m value config calls h p e. (
         λ q. let z : _≡_ {A = ℕ} 0 1 = cc in absurd (omega arith),
-        follows (after t (lay n m value config)) (fed b (lay n m value config) (reply t (lay n m value config) .number)) calls
-            (bytes-kept t (lay n m value config) h (p .0)) (p .1)
-            (rw e (start (view t) (view (after t (lay n m value config))) b n m value config (next-view t (lay n m value config) h (p .0) e) (tested t (lay n m value config) e))),
+        one-copy (after t (lay n m value config)) (fed b (lay n m value config) (reply t (lay n m value config) .number)) calls
+            (bytes-kept t (lay n m value config) h (p .0)) (p .1) (rw e (begins t b n m value config h (p .0) e)),
       );
     }

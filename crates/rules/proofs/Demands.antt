@@ -1,15 +1,27 @@
 -- The demands hold of the definitions, and what else is stated of them: each theorem is of the statement in the file of specs/ that
 -- bears its name.
+use mathlib.Core.Path.{_≡_, refl}
+use mathlib.Core.Bool.{Bool, cond}
+use Prim.Native.Nat.{ℕ}
+use lib.Dec.{eqb}
+use Rattle.basics.proofs.Tests.{by-cases}
+use Rattle.layout.specs.View.{Table, view}
+use Rattle.layout.proofs.Soundness.{is-sound}
+use Rattle.rules.specs.Calls.{reach}
+use Rattle.rules.specs.Rules.{numberOf}
+use Rattle.rules.specs.After.{done}
+use Rattle.rules.specs.Reply.{reply, after}
 use Rattle.rules.specs.Demand1.{Demand1}
-use Rattle.rules.proofs.Demand1.{refusal-changes-nothing, refusal-has-no-figures, other-calls-have-no-figures, number-is-listed}
+use Rattle.rules.specs.Steps.{Steps}
+use Rattle.rules.proofs.Demand1.{refusal-changes-nothing, refusal-has-no-figures, other-calls-have-no-figures, number-is-listed, reply-figures}
 use Rattle.rules.proofs.Room.{figures-fit}
-use Rattle.rules.proofs.Lengths.{length-kept, bytes-kept}
+use Rattle.rules.proofs.Laws.{done-law, next-view, length-kept, bytes-kept}
+pub use Rattle.rules.proofs.Judged.{numbered}
 pub use Rattle.rules.proofs.Demand2.{demand2}
 pub use Rattle.rules.proofs.Demand3.{demand3}
 pub use Rattle.rules.proofs.Kept.{sound-kept}
-pub use Rattle.rules.proofs.Done.{done}
-pub use Rattle.rules.proofs.Steps.{steps}
 pub use Rattle.rules.proofs.Twice.{twice}
+pub use Rattle.rules.proofs.Alike.{alike-tables}
 
 pub demand1 : Demand1
 demand1 =
@@ -21,4 +33,15 @@ demand1 =
       figures-fit = figures-fit;
       length-kept = length-kept;
       bytes-kept = bytes-kept;
+    }
+
+reach-nothing : (t : Table) (i : ℕ) → after t (reach i) ≡ t
+unfolding after done
+reach-nothing t i = by-cases (λ (b : Bool). cond b t t ≡ t) (eqb (numberOf (view t) (reach i)) 0) (λ _. refl) (λ _. refl)
+
+pub steps : Steps
+steps =
+    record {
+      step = λ t c b p e. done-law t c e .does (view (after t c)) (reply t c) (next-view t c e b p) (reply-figures t c e);
+      reach-changes-nothing = reach-nothing;
     }

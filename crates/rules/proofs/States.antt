@@ -1,45 +1,40 @@
--- The state after each call that is done, and that it is sound.
+-- The state after each call that is done, and that it is sound where the state before it was.
 use mathlib.Core.Path.{_≡_, refl, sym, _∙_}
 use mathlib.Core.Bool.{Bool, true, false, not, cond, _&&_, _||_}
 use mathlib.Core.List.{List}
-use mathlib.Core.Logic.{_⊎_, ⊎-elim}
 use Prim.Native.Nat.{ℕ, _≤_, _<_}
 use native.Mathlib.Omega.{arith}
 use lib.Dec.{eqb}
 use borrow.Author.Tests.{eqb-true, eqb-false, eq-eqb, not-true}
 use Rattle.quorum.specs.Sets.{member, shares, within, join, remove}
 use Rattle.quorum.specs.Configurations.{valid}
-use Rattle.quorum.proofs.Tests.{clash, by-cases, and-left, and-right, or-cases}
+use Rattle.basics.proofs.Tests.{clash, by-cases, and-left, and-right, or-cases}
 use Rattle.quorum.proofs.Promise.{promise}
 use Rattle.layout.specs.Layout.{configSize}
 use Rattle.layout.specs.Fields.{Copy, Kind, none, read, write, change, Round}
 use Rattle.layout.specs.View.{State}
 use Rattle.layout.specs.Updates.{noTarget}
 use Rattle.layout.proofs.Parts.{read-zeros}
-use Rattle.layout.proofs.Fields.{withPolled, withPuts, opened}
+use Rattle.layout.specs.Rounds.{withPolled, withPuts, opened, withPoll, withPut, withLink}
 use Rattle.layout.proofs.Soundness.{RoundFacts, StateSound}
 use Rattle.layout.proofs.Held.{withOff, withRound, withCopies}
-use Rattle.rules.specs.Calls.{Call, lay, openRead, openWrite, openChange, poll, put, commit, abandon, link, reach}
-use Rattle.rules.specs.Rules.{wrongPut}
-use Rattle.rules.specs.Figures.{Figures, closing}
-use Rattle.rules.specs.Done.{Allowed}
-use Rattle.rules.proofs.Stored.{committed, started}
+use Rattle.rules.specs.Calls.{Call, lay, openRead, openWrite, openChange, poll, put, commit, abandon, link, reach, isData, isOff}
+use Rattle.rules.specs.Figures.{closing}
+use Rattle.rules.specs.After.{stores}
+use Rattle.rules.specs.After.{linked as linkedOff}
+use Rattle.rules.specs.Needs.{RightPut}
+use Rattle.layout.proofs.Stored.{committed, started}
 
 abbrev pub next : State → Call → State
 next v (lay n m value config) = started v n m value config
 next v (openRead i) = withRound v (opened read i 0 noTarget)
 next v (openWrite i value) = withRound v (opened write i value noTarget)
 next v (openChange i target) = withRound v (opened change i 0 target)
-next v (poll s) = withRound v (withPolled (v .round) (join (v .round .polled) s))
-next v (put s sort) =
-    withRound v (withPuts (v .round) (cond (eqb sort 1) (join (v .round .dataPuts) s) (v .round .dataPuts))
-    (cond (eqb sort 1) (v .round .configPuts) (join (v .round .configPuts) s)))
-next v commit = withRound (withCopies v (committed v (closing v (v .round .kind)))) (opened none 0 0 noTarget)
+next v (poll s) = withRound v (withPoll (v .round) s)
+next v (put s sort) = withRound v (withPut (v .round) s (isData sort))
+next v commit = withRound (withCopies v (committed v (stores (closing v (v .round .kind)) (v .round .target)))) (opened none 0 0 noTarget)
 next v abandon = withRound v (opened none 0 0 noTarget)
-next v (link s state) =
-    withRound (withOff v (cond (eqb state 0) (join (v .off) s) (remove (v .off) s)))
-    (withPuts (v .round) (cond (eqb state 0) (remove (v .round .dataPuts) s) (v .round .dataPuts))
-    (cond (eqb state 0) (remove (v .round .configPuts) s) (v .round .configPuts)))
+next v (link s state) = withRound (withOff v (linkedOff v s (isOff state))) (withLink (v .round) s (isOff state))
 next v (reach i) = v
 
 -- ---- sets that share no station
@@ -111,13 +106,12 @@ module _ (n : ℕ) (r : Round) where
   facts-poll polled write busy f = f
   facts-poll polled change busy f = f
 
-  -- a put that is not wrong: none in a read, and in a write no configuration put
-  facts-put : (sort d c : ℕ) (k : Kind) → (k ≡ none → ⊥) → wrongPut k sort ≡ false → (sort ≡ 1) ⊎ (sort ≡ 2) → RoundFacts n r k
-      → RoundFacts n (withPuts r d (cond (eqb sort 1) (r .configPuts) c)) k
-  facts-put sort d c none busy w q f = absurd (busy refl)
-  facts-put sort d c read busy w q f = clash refl w
-  facts-put sort d c write busy w q f = ⊎-elim (λ e. rw (eq-eqb sort 1 e) f) (λ e. clash (eq-eqb sort 2 e) w) q
-  facts-put sort d c change busy w q f = f
+  -- a put that is right: none in a read, and in a write no configuration put
+  facts-put : (sort d c : ℕ) (k : Kind) → RightPut k sort → RoundFacts n r k → RoundFacts n (withPuts r d (cond (isData sort) (r .configPuts) c)) k
+  facts-put sort d c none w f = absurd w
+  facts-put sort d c read w f = absurd w
+  facts-put sort d c write w f = rw w f
+  facts-put sort d c change w f = f
 
   facts-link : (off? : Bool) (s : ℕ) (k : Kind) → RoundFacts n r k
       → RoundFacts n (withPuts r (cond off? (remove (r .dataPuts) s) (r .dataPuts)) (cond off? (remove (r .configPuts) s) (r .configPuts))) k
@@ -168,51 +162,60 @@ module _ (v : State) (f : StateSound v) where
         configs = h;
       }
 
-  renewed : (k : Kind) (i x : ℕ) (target : List ℕ) → i < v .m → RoundFacts (v .n) (opened k i x target) k → StateSound (withRound v (opened k i x target))
+  pub renewed : (k : Kind) (i x : ℕ) (target : List ℕ) → i < v .m → RoundFacts (v .n) (opened k i x target) k → StateSound (withRound v (opened k i x target))
   renewed k i x target l g =
       let e = empty-set (v .n) (v .off) in
       changed (v .off) (opened k i x target) (v .copies) (f .off) l (promise .within-empty (v .n)) e e g (f .configs)
 
-  polled-sound : (s : ℕ) → s < v .n → (v .round .kind ≡ none → ⊥) → StateSound (next v (poll s))
+  pub polled-sound : (s : ℕ) → s < v .n → (v .round .kind ≡ none → ⊥) → StateSound (next v (poll s))
   polled-sound s l busy =
       let p = join (v .round .polled) s in
-      changed (v .off) (withPolled (v .round) p) (v .copies) (f .off) (f .item) (promise .within-join (v .n) (v .round .polled) s (f .small) (f .polled) l)
+      changed (v .off) (withPoll (v .round) s) (v .copies) (f .off) (f .item) (promise .within-join (v .n) (v .round .polled) s (f .small) (f .polled) l)
       data-set config-set (facts-poll (v .n) (v .round) p (v .round .kind) busy (f .round)) (f .configs)
 
-  put-sound : (s sort : ℕ) → s < v .n → (sort ≡ 1) ⊎ (sort ≡ 2) → (v .round .kind ≡ none → ⊥) → member (v .off) s ≡ false
-      → wrongPut (v .round .kind) sort ≡ false → StateSound (next v (put s sort))
-  put-sound s sort l q busy on right =
-      let d? = eqb sort 1 in
-      changed (v .off) (withPuts (v .round) (cond d? (join d s) d) (cond d? c (join c s))) (v .copies) (f .off) (f .item) (f .polled)
-      (either (PutSet (v .n) (v .off)) d? (join d s) d (joined (v .n) (v .off) d s (f .small) l data-set on) data-set)
-      (either (PutSet (v .n) (v .off)) d? c (join c s) config-set (joined (v .n) (v .off) c s (f .small) l config-set on))
-      (facts-put (v .n) (v .round) sort (cond d? (join d s) d) (join c s) (v .round .kind) busy right q (f .round)) (f .configs)
+  pub put-sound : (s sort : ℕ) → s < v .n → member (v .off) s ≡ false → RightPut (v .round .kind) sort → StateSound (next v (put s sort))
+  put-sound s sort l on right =
+      let d? = isData sort in
+      let data-joined = joined (v .n) (v .off) d s (f .small) l data-set on in
+      let config-joined = joined (v .n) (v .off) c s (f .small) l config-set on in
+      changed (v .off) (withPut (v .round) s d?) (v .copies) (f .off) (f .item) (f .polled)
+      (either (PutSet (v .n) (v .off)) d? (join d s) d data-joined data-set) (either (PutSet (v .n) (v .off)) d? c (join c s) config-set config-joined)
+      (facts-put (v .n) (v .round) sort (cond d? (join d s) d) (join c s) (v .round .kind) right (f .round)) (f .configs)
 
-  -- whatever the figures are
-  stored-sound : (z : Figures) → StateSound (withCopies v (committed v z))
-  stored-sound z =
-      changed (v .off) (v .round) (committed v z) (f .off) (f .item) (f .polled) data-set config-set (f .round)
-      (λ i s p q. by-cases (λ (b : Bool). valid (v .n) (cond b (v .round .target) (v .copies i s .config)) ≡ true) (eqb i (v .round .item) && member c s)
-      (λ e. target-valid (v .n) (v .round) (v .round .kind) (f .round) s (and-right (eqb i (v .round .item)) _ e)) (λ _. f .configs i s p q))
+  -- whatever the counters are that are stored with the target
+  stored-sound : (new : Copy) → new .config ≡ v .round .target → StateSound (withCopies v (committed v new))
+  stored-sound new e =
+      changed (v .off) (v .round) (committed v new) (f .off) (f .item) (f .polled) data-set config-set (f .round)
+      (λ i s p q. by-cases (λ (b : Bool). valid (v .n) (cond b (new .config) (v .copies i s .config)) ≡ true) (eqb i (v .round .item) && member c s)
+      (λ h. rw e (target-valid (v .n) (v .round) (v .round .kind) (f .round) s (and-right (eqb i (v .round .item)) _ h))) (λ _. f .configs i s p q))
 
-  link-sound : (s state : ℕ) → s < v .n → StateSound (next v (link s state))
+  pub closed-sound : StateSound (next v abandon)
+  closed-sound = renewed none 0 0 noTarget (f .someItem) (closed (v .n))
+
+  pub link-sound : (s state : ℕ) → s < v .n → StateSound (next v (link s state))
   link-sound s state l =
-      let off? = eqb state 0 in
-      changed (cond off? (join (v .off) s) (remove (v .off) s)) (withPuts (v .round) (cond off? (remove d s) d) (cond off? (remove c s) c)) (v .copies)
+      let off? = isOff state in
+      changed (linkedOff v s off?) (withLink (v .round) s off?) (v .copies)
       (either (λ (x : ℕ). within (v .n) x ≡ true) off? (join (v .off) s) (remove (v .off) s)
       (promise .within-join (v .n) (v .off) s (f .small) (f .off) l) (promise .within-remove (v .n) (v .off) s (f .off))) (f .item) (f .polled)
       (linked (v .n) (v .off) d s (f .small) l data-set off?) (linked (v .n) (v .off) c s (f .small) l config-set off?)
       (facts-link (v .n) (v .round) off? s (v .round .kind) (f .round)) (f .configs)
 
-laid-sound : (v : State) (n m value : ℕ) (config : List ℕ) → Allowed v (lay n m value config) → StateSound (started v n m value config)
-laid-sound v n m value config a =
+pub committed-sound : (v : State) → StateSound v → StateSound (next v commit)
+committed-sound v f =
+    let new = stores (closing v (v .round .kind)) (v .round .target) in
+    closed-sound (withCopies v (committed v new)) (stored-sound v f new refl)
+
+pub laid-sound : (v : State) (n m value : ℕ) (config : List ℕ) → (1 ≤ n) × (n ≤ 16) × (1 ≤ m) × (m ≤ 32) → valid n config ≡ true
+    → StateSound (started v n m value config)
+laid-sound v n m value config a h =
     let e = empty-set n 0 in
     record {
-      positive = a .0 .0;
-      small = a .0 .1;
-      someItem = a .0 .2;
-      fewItems = a .0 .3;
-      item = a .0 .2;
+      positive = a .0;
+      small = a .1;
+      someItem = a .2;
+      fewItems = a .3;
+      item = a .2;
       off = e .inRange;
       polled = e .inRange;
       dataPuts = e .inRange;
@@ -220,20 +223,5 @@ laid-sound v n m value config a =
       dataOn = e .on;
       configOn = e .on;
       round = closed n;
-      configs = λ i s p q. a .2;
+      configs = λ i s p q. h;
     }
-
-pub next-sound : (v : State) (c : Call) → Allowed v c → (v .isSound ≡ true → StateSound v) → StateSound (next v c)
-next-sound v (lay n m value config) a h = laid-sound v n m value config a
-next-sound v (openRead i) a h = renewed v (h (a .0)) read i 0 noTarget (a .1) (refl, refl, refl, read-zeros configSize)
-next-sound v (openWrite i value) a h = renewed v (h (a .0)) write i value noTarget (a .1) (refl, read-zeros configSize)
-next-sound v (openChange i target) a h = renewed v (h (a .0)) change i 0 target (a .1) (refl, a .2)
-next-sound v (poll s) a h = polled-sound v (h (a .0)) s (a .1) (a .2)
-next-sound v (put s sort) a h = put-sound v (h (a .0)) s sort (a .1 .0) (a .1 .1) (a .2) (a .3) (a .5)
-next-sound v commit a h =
-    let f = h (a .0) in
-    let z = closing v (v .round .kind) in
-    renewed (withCopies v (committed v z)) (stored-sound v f z) none 0 0 noTarget (f .someItem) (closed (v .n))
-next-sound v abandon a h = let f = h (a .0) in renewed v f none 0 0 noTarget (f .someItem) (closed (v .n))
-next-sound v (link s state) a h = link-sound v (h (a .0)) s state (a .1 .0)
-next-sound v (reach i) a h = h (a .0)

@@ -1,38 +1,34 @@
--- What each call that is done does, from the state that the bytes hold after it (Views.antt) and the figures of its reply.
+-- What each call that is done does, from the state after it and the figures of its reply: lemmas for Laws.antt.
 use mathlib.Core.Path.{_≡_, refl, sym, ap, _∙_}
 use mathlib.Core.Bool.{Bool, true, false, cond}
 use mathlib.Core.List.{List}
 use mathlib.Core.Logic.{_↔_}
 use Prim.Native.Nat.{ℕ, _<_}
 use native.Mathlib.Omega.{arith}
-use lib.Dec.{ltb, eqb}
+use lib.Dec.{ltb}
 use borrow.Author.Tests.{lt-ltb, eq-eqb, ne-eqb}
+use Rattle.basics.proofs.Tests.{clash}
 use Rattle.quorum.specs.Sets.{member, join, remove, full}
 use Rattle.quorum.specs.Configurations.{holdsRead, holdsWrite}
-use Rattle.quorum.proofs.Tests.{clash, by-cases}
 use Rattle.quorum.proofs.Promise.{promise}
 use Rattle.layout.specs.Fields.{Kind, none, read, write, change, Round}
-use Rattle.layout.specs.View.{State, view}
+use Rattle.layout.specs.Rounds.{withPolled, withPuts, opened}
+use Rattle.layout.specs.View.{State, own, heard}
 use Rattle.layout.specs.Updates.{noTarget}
-use Rattle.layout.proofs.Fields.{withPolled, withPuts, opened}
-use Rattle.layout.proofs.Soundness.{StateSound, is-sound}
+use Rattle.layout.proofs.Soundness.{StateSound}
 use Rattle.layout.proofs.Held.{withOff, withRound}
-use Rattle.rules.specs.Calls.{Call, lay, openRead, openWrite, openChange, poll, put, commit, abandon, link, reach}
-use Rattle.rules.specs.Newest.{own, heard}
+use Rattle.layout.proofs.Newer.{by-generation, some-newest, hears-same}
+use Rattle.layout.proofs.Stored.{stored}
+use Rattle.rules.specs.Calls.{lay, poll, put, commit, link, reach}
 use Rattle.rules.specs.Figures.{figuresOf, closing, reachOf, onBus}
-use Rattle.rules.specs.Rules.{numberOf}
-use Rattle.rules.specs.After.{done as afterDone}
-use Rattle.rules.specs.Reply.{reply, after}
+use Rattle.rules.specs.After.{stores}
 use Rattle.rules.specs.Demand2.{Found}
-use Rattle.rules.specs.Done.{Allowed}
-use Rattle.rules.specs.Steps.{Joined, Removed, SameCopies, SameOrder, Fresh, Laid, Opened, Polled, Put, Linked, Closing, Committed, Reached, Step, Steps}
+use Rattle.rules.specs.Steps.{Joined, Removed, SameCopies, SameOrder, Fresh, Laid, Opened, Polled, Put, Linked, Closing, Committed, Reached}
 use Rattle.rules.specs.declared.Reply.{Reply}
-use Rattle.rules.proofs.Newest.{by-generation, some-newest, hears-same}
-use Rattle.rules.proofs.Demand1.{Shows, reply-figures}
-use Rattle.rules.proofs.Demand2.{found, version-found, generation-found}
-use Rattle.rules.proofs.Done.{done}
-use Rattle.rules.proofs.Stored.{stored}
-use Rattle.rules.proofs.Views.{Like, next, done-allowed, follows}
+use Rattle.rules.proofs.Demand1.{Shows}
+use Rattle.rules.proofs.Quorums.{version-found, generation-found, heard-exactly}
+use Rattle.rules.proofs.States.{next}
+use Rattle.rules.proofs.Views.{Like}
 
 -- ---- what stays, and what is fresh
 module _ (v w : State) where
@@ -102,13 +98,14 @@ module _ {A : Type 0} where
 module _ (v w : State) (s : ℕ) (l : Like w (next v (poll s))) (f : StateSound v) where
   heard-after : heard w ≡ heard (next v (poll s))
   heard-after =
-      rw (l .n, l .round) (hears-same (w .copies (v .round .item)) (own v) (join (v .round .polled) s) (v .n) (λ u h. l .copies (v .round .item) u (f .item) h))
+      rw (l .n, l .round) (hears-same (w .copies (v .round .item)) (own v) (join (v .round .polled) s) (v .n)
+      (λ u h. l .copies (v .round .item) u (f .item) h))
 
-  polled-step : (r : Reply) → s < v .n → Shows r (figuresOf v (poll s)) → Polled v w s r
+  pub polled-step : (r : Reply) → s < v .n → Shows r (figuresOf v (poll s)) → Polled v w s r
   unfolding figuresOf
   polled-step r h q =
       let k = f .small in
-      let x = one-told (heard (next v (poll s))) (rw heard-after at (done .heard-exactly w)) in
+      let x = one-told (heard (next v (poll s))) (rw heard-after at (heard-exactly w)) in
       record {
         copies = same-copies v w (v .off) _ l;
         order = same-order v w _ _ _ (l .round);
@@ -122,12 +119,12 @@ module _ (v w : State) (s : ℕ) (l : Like w (next v (poll s))) (f : StateSound 
       }
 
 -- ---- openings, put and link
-opened-step : (v w : State) (k : Kind) (i x : ℕ) (target : List ℕ) → Like w (withRound v (opened k i x target)) → Opened v w k i x target
+pub opened-step : (v w : State) (k : Kind) (i x : ℕ) (target : List ℕ) → Like w (withRound v (opened k i x target)) → Opened v w k i x target
 opened-step v w k i x target l =
     record { copies = same-copies v w (v .off) _ l; off = l .off; round = fresh (w .round) k i x target (l .round) }
 
 module _ (v w : State) (s : ℕ) (small : s < 16) where
-  put-step : (sort : ℕ) → Like w (next v (put s sort)) → Put v w s sort
+  pub put-step : (sort : ℕ) → Like w (next v (put s sort)) → Put v w s sort
   put-step sort l =
       let d = ap (λ r. r .dataPuts) (l .round) in
       let c = ap (λ r. r .configPuts) (l .round) in
@@ -140,7 +137,7 @@ module _ (v w : State) (s : ℕ) (small : s < 16) where
         configPut = λ e. (d ∙ rw e, joined _ s _ small (c ∙ rw e));
       }
 
-  link-step : (state : ℕ) → Like w (next v (link s state)) → Linked v w s state
+  pub link-step : (state : ℕ) → Like w (next v (link s state)) → Linked v w s state
   link-step state l =
       let d = ap (λ r. r .dataPuts) (l .round) in
       let c = ap (λ r. r .configPuts) (l .round) in
@@ -171,10 +168,10 @@ module _ (v w : State) (r : Reply) (l : Like w (next v commit)) (item : v .round
   abbrev c : ℕ → Bool
   c s = member (v .round .configPuts) s
 
-  own-stored : (s : ℕ) → s < v .n → w .copies i s ≡ stored (d s) (c s) (closing v (v .round .kind)) (v .round .target) (own v s)
+  own-stored : (s : ℕ) → s < v .n → w .copies i s ≡ stored (d s) (c s) (stores (closing v (v .round .kind)) (v .round .target)) (own v s)
   own-stored s h = l .copies i s item h ∙ rw (eq-eqb i i refl)
 
-  commit-step : Found v → (v .round .kind ≡ none → ⊥) → Committed v w r
+  pub commit-step : Found v → (v .round .kind ≡ none → ⊥) → Committed v w r
   commit-step f busy =
       record {
         found = f;
@@ -195,14 +192,14 @@ module _ (v : State) (i : ℕ) (f : StateSound v) where
   all-stations : (s : ℕ) → member (full (v .n)) s ≡ ltb s (v .n)
   all-stations s = promise .member-full (v .n) s (f .small)
 
-  reach-step : (r : Reply) → Shows r (figuresOf v (reach i)) → Reached v i r
+  pub reach-step : (r : Reply) → Shows r (figuresOf v (reach i)) → Reached v i r
   unfolding figuresOf
   reach-step r q =
       let x = some-newest (λ s. v .copies i s .generation) (full (v .n)) (v .n) 0 (f .positive) (all-stations 0 ∙ lt-ltb 0 (v .n) (f .positive)) in
       let config = v .copies i (x .0) .config in
       let e = by-generation (v .copies i) (full (v .n)) (v .n) (x .0) (x .1) in
       let y : r .first ≡ three (holdsRead config (onBus v)) (holdsWrite config (onBus v)) = q .0 ∙ ap (λ x. reachOf (x .config) (onBus v)) e in
-      let z = three-told (holdsRead config (onBus v)) (holdsWrite config (onBus v)) (promise .holds-read config (onBus v)) (promise .holds-write config (onBus v)) in
+      let z = three-told _ _ (promise .holds-read config (onBus v)) (promise .holds-write config (onBus v)) in
       record {
         all = full (v .n);
         isAll = all-stations;
@@ -217,7 +214,7 @@ module _ (v : State) (i : ℕ) (f : StateSound v) where
       }
 
 -- ---- lay
-laid-step : (v w : State) (n m value : ℕ) (config : List ℕ) → Like w (next v (lay n m value config)) → Laid w n m value config
+pub laid-step : (v w : State) (n m value : ℕ) (config : List ℕ) → Like w (next v (lay n m value config)) → Laid w n m value config
 laid-step v w n m value config l =
     record {
       stations = l .n;
@@ -226,29 +223,4 @@ laid-step v w n m value config l =
       round = fresh (w .round) none 0 0 noTarget (l .round);
       copies = λ i s g h. let e = l .copies i s g h in
           (ap (λ x. x .version) e, ap (λ x. x .value) e, ap (λ x. x .generation) e, ap (λ x. x .config) e);
-    }
-
--- ---- every call
-does : (v w : State) (r : Reply) (c : Call) → (v .isSound ≡ true → StateSound v) → Like w (next v c) → Allowed v c → Shows r (figuresOf v c) → Step c v w r
-unfolding figuresOf
-does v w r (lay n m value config) f l a q = laid-step v w n m value config l
-does v w r (openRead i) f l a q = opened-step v w read i 0 noTarget l
-does v w r (openWrite i value) f l a q = opened-step v w write i value noTarget l
-does v w r (openChange i target) f l a q = opened-step v w change i 0 target l
-does v w r (poll s) f l a q = polled-step v w s l (f (a .0)) r (a .1) q
-does v w r (put s sort) f l a q = let k = f (a .0) .small in let h = a .1 .0 in put-step v w s (omega arith) sort l
-does v w r commit f l a q = commit-step v w r l (f (a .0) .item) q (found v (a .2)) (a .1)
-does v w r abandon f l a q = opened-step v w none 0 0 noTarget l
-does v w r (link s state) f l a q = let k = f (a .0) .small in let h = a .1 .0 in link-step v w s (omega arith) state l
-does v w r (reach i) f l a q = reach-step v i (f (a .0)) r q
-
-reach-nothing : (t : List ℕ) (i : ℕ) → after t (reach i) ≡ t
-unfolding after afterDone
-reach-nothing t i = by-cases (λ (b : Bool). cond b t t ≡ t) (eqb (numberOf (view t) (reach i)) 0) (λ _. refl) (λ _. refl)
-
-pub steps : Steps
-steps =
-    record {
-      step = λ t c b p e. does (view t) (view (after t c)) (reply t c) c (is-sound t) (follows t c b p e) (done-allowed t c e) (reply-figures t c e);
-      reach-changes-nothing = reach-nothing;
     }

@@ -2,26 +2,28 @@
 use mathlib.Core.Path.{_≡_, refl, sym, ap, _∙_}
 use mathlib.Core.Bool.{Bool, true, false, cond}
 use mathlib.Core.List.{List, _++_}
-use Prim.Native.Nat.{ℕ, _<_}
+use Prim.Native.Nat.{ℕ, _≤_, _<_}
 use native.Mathlib.Omega.{arith}
 use lib.Dec.{eqb}
 use lib.ListN.{length, length-append}
 use Rattle.quorum.specs.Sets.{member, join}
-use Rattle.quorum.proofs.Tests.{or-left, or-right, or-cases}
+use Rattle.basics.proofs.Tests.{or-left, or-right, or-cases}
 use Rattle.quorum.proofs.Promise.{promise}
-use Rattle.layout.specs.Layout.{polledAt, dataPutsAt}
+use Rattle.layout.specs.Layout.{headSize, polledAt, dataPutsAt}
 use Rattle.layout.specs.View.{view}
 use Rattle.layout.specs.Updates.{bytesOf, setPolled, setPuts}
 use Rattle.layout.proofs.Parts.{over-again, length-bytes}
 use Rattle.layout.proofs.Fields.{polled-round, puts-round}
+use Rattle.layout.proofs.Soundness.{sound-head}
 use Rattle.rules.specs.Calls.{Call, lay, poll, put, isData}
-use Rattle.rules.specs.Rules.{refusals, numberOf}
+use Rattle.rules.specs.Rules.{tests, refusals, numberOf}
 use Rattle.rules.specs.Figures.{figuresOf}
 use Rattle.rules.specs.After.{done}
-use Rattle.rules.specs.Reply.{reply, after}
+use Rattle.rules.specs.Reply.{replyOf, reply, after}
+use Rattle.rules.specs.Needs.{needs}
 use Rattle.rules.specs.Twice.{Twice}
-use Rattle.rules.proofs.Views.{two-bytes, done-after, done-allowed, done-sound}
-use Rattle.rules.proofs.Lengths.{by-number, head}
+use Rattle.rules.proofs.Views.{two-bytes}
+use Rattle.rules.proofs.Laws.{by-number, done-after, done-allowed, done-law}
 
 -- ---- a station that is in the set joins it again
 join-again : (a s : ℕ) → s < 16 → join (join a s) s ≡ join a s
@@ -40,18 +42,22 @@ module _ (t : List ℕ) (s : ℕ) (e : reply t (poll s) .number ≡ 0) where
   abbrev polled : ℕ
   polled = join (view t .round .polled) s
 
+  poll-head : headSize ≤ length t
+  unfolding needs view
+  poll-head = sound-head t (done-allowed t (poll s) e .0)
+
   polled-same : setPolled (setPolled t polled) polled ≡ setPolled t polled
   unfolding setPolled
-  polled-same = over-again t polledAt (bytesOf 2 polled) (let l = head t (done-allowed t (poll s) e .0) in rw (length-bytes 2 polled) (omega arith))
+  polled-same = over-again t polledAt (bytesOf 2 polled) (let l = poll-head in rw (length-bytes 2 polled) (omega arith))
 
   polled-again : done (setPolled t polled) (view (setPolled t polled)) (poll s) ≡ setPolled t polled
-  unfolding done view
+  unfolding done view needs
   polled-again =
       let a = done-allowed t (poll s) e in
-      let f = done-sound t (poll s) e in
+      let f = done-law t (poll s) e .isSound in
       let k = f .small in
-      let h = a .1 in
-      ap (λ r. setPolled (setPolled t polled) (join (r .polled) s)) (polled-round t (head t (a .0)) polled (two-bytes _ f polled (f .polled)))
+      let h = a .1 .0 in
+      ap (λ r. setPolled (setPolled t polled) (join (r .polled) s)) (polled-round t poll-head polled (two-bytes _ f polled (f .polled)))
       ∙ ap (setPolled (setPolled t polled)) (join-again (view t .round .polled) s (omega arith)) ∙ polled-same
 
   poll-twice : after (after t (poll s)) (poll s) ≡ after t (poll s)
@@ -60,6 +66,10 @@ module _ (t : List ℕ) (s : ℕ) (e : reply t (poll s) .number ≡ 0) where
 
 -- ---- put
 module _ (t : List ℕ) (s sort : ℕ) (e : reply t (put s sort) .number ≡ 0) where
+  put-head : headSize ≤ length t
+  unfolding needs view
+  put-head = sound-head t (done-allowed t (put s sort) e .0)
+
   -- the put sets after a put on given ones
   abbrev dataPuts : ℕ → ℕ
   dataPuts d = cond (isData sort) (join d s) d
@@ -76,7 +86,7 @@ module _ (t : List ℕ) (s sort : ℕ) (e : reply t (put s sort) .number ≡ 0) 
   puts-same : setPuts (setPuts t d c) d c ≡ setPuts t d c
   unfolding setPuts
   puts-same =
-      let l = head t (done-allowed t (put s sort) e .0) in
+      let l = put-head in
       over-again t dataPutsAt (bytesOf 2 d ++ bytesOf 2 c) (rw (length-append, length-bytes 2 d, length-bytes 2 c) (omega arith))
 
   settle : s < 16 → (q : Bool) (a : ℕ) → (cond q (join (cond q (join a s) a) s) (cond q (join a s) a) ≡ cond q (join a s) a)
@@ -85,15 +95,15 @@ module _ (t : List ℕ) (s sort : ℕ) (e : reply t (put s sort) .number ≡ 0) 
   settle l false a = (refl, join-again a s l)
 
   puts-again : done (setPuts t d c) (view (setPuts t d c)) (put s sort) ≡ setPuts t d c
-  unfolding done view
+  unfolding done view needs
   puts-again =
       let a = done-allowed t (put s sort) e in
-      let f = done-sound t (put s sort) e in
+      let f = done-law t (put s sort) e .isSound in
       let k = f .small in
-      let h = a .1 .0 in
+      let h = a .1 .0 .0 in
       let l : s < 16 = omega arith in
       ap (λ r. setPuts (setPuts t d c) (dataPuts (r .dataPuts)) (configPuts (r .configPuts)))
-      (puts-round t (head t (a .0)) d c (two-bytes _ f d (f .dataPuts)) (two-bytes _ f c (f .configPuts)))
+      (puts-round t put-head d c (two-bytes _ f d (f .dataPuts)) (two-bytes _ f c (f .configPuts)))
       ∙ rw (settle l (isData sort) (view t .round .dataPuts) .0, settle l (isData sort) (view t .round .configPuts) .1) puts-same
 
   put-twice : after (after t (put s sort)) (put s sort) ≡ after t (put s sort)
@@ -103,7 +113,7 @@ module _ (t : List ℕ) (s sort : ℕ) (e : reply t (put s sort) .number ≡ 0) 
 -- ---- lay
 module _ (t u : List ℕ) (n m value : ℕ) (config : List ℕ) (e : length t ≡ length u) where
   lay-reply : reply t (lay n m value config) ≡ reply u (lay n m value config)
-  unfolding reply numberOf refusals view figuresOf
+  unfolding replyOf numberOf refusals tests view figuresOf
   lay-reply = rw e
 
   lay-after : reply t (lay n m value config) .number ≡ 0 → after t (lay n m value config) ≡ after u (lay n m value config)

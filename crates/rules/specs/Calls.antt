@@ -18,28 +18,47 @@ pub data Call : Type 0 where
   link : (station state : ℕ) → Call
   reach : (item : ℕ) → Call
 
+-- what is said of a lay by its arguments, and of every other call alike
+abbrev pub layOr : {A : Type 0} → (ℕ → ℕ → ℕ → List ℕ → A) → A → Call → A
+layOr f a (lay n m value config) = f n m value config
+layOr f a (openRead i) = a
+layOr f a (openWrite i value) = a
+layOr f a (openChange i target) = a
+layOr f a (poll s) = a
+layOr f a (put s sort) = a
+layOr f a commit = a
+layOr f a abandon = a
+layOr f a (link s state) = a
+layOr f a (reach i) = a
+
 abbrev pub isLay : Call → Bool
-isLay (lay n m value config) = true
-isLay (openRead i) = false
-isLay (openWrite i value) = false
-isLay (openChange i target) = false
-isLay (poll s) = false
-isLay (put s sort) = false
-isLay commit = false
-isLay abandon = false
-isLay (link s state) = false
-isLay (reach i) = false
+isLay = layOr (λ n m value config. true) false
+
+pub data IsLay : Call → Type 0 where
+  of-lay : {n m value : ℕ} {config : List ℕ} → IsLay (lay n m value config)
 
 -- "Put (station, 1 data or 2 configuration)"
-abbrev pub isData : ℕ → Bool
-isData sort = eqb sort 1
+abbrev pub dataSort : ℕ
+dataSort = 1
 
-abbrev pub isConfig : ℕ → Bool
-isConfig sort = eqb sort 2
+abbrev pub configSort : ℕ
+configSort = 2
+
+abbrev pub isData : ℕ → Bool
+isData sort = eqb sort dataSort
+
+abbrev pub isConfigSort : ℕ → Bool
+isConfigSort sort = eqb sort configSort
 
 -- "Link (station, 0 off or 1 on)"
+abbrev pub offState : ℕ
+offState = 0
+
+abbrev pub onState : ℕ
+onState = 1
+
 abbrev pub isOff : ℕ → Bool
-isOff state = eqb state 0
+isOff state = eqb state offState
 
 abbrev pub isOn : ℕ → Bool
-isOn state = eqb state 1
+isOn state = eqb state onState

@@ -3,12 +3,12 @@
 -- the table keeps its length, and stays bytes. That there is one reply and one table is said by `reply` and `after` being
 -- functions; that the code ends, equals them and touches nothing but what it is lent is in its contracts.
 use mathlib.Core.Path.{_≡_}
-use mathlib.Core.Bool.{Bool, true, false}
 use mathlib.Core.List.{List}
 use Prim.Native.Nat.{ℕ, _≤_}
 use lib.ListN.{length}
-use Rattle.quorum.specs.Bytes.{AreBytes}
-use Rattle.rules.specs.Calls.{Call, lay, openRead, openWrite, openChange, poll, put, commit, abandon, link, reach}
+use Rattle.basics.specs.Bytes.{AreBytes}
+use Rattle.layout.specs.View.{Table}
+use Rattle.rules.specs.Calls.{Call, poll, commit, reach}
 use Rattle.rules.specs.Passed.{Passable, Word}
 use Rattle.rules.specs.Reply.{reply, after}
 use Rattle.rules.specs.declared.Reply.{Reply}
@@ -17,26 +17,19 @@ abbrev pub ZeroFigures : Reply → Type 0
 ZeroFigures r = (r .first ≡ 0) × (r .second ≡ 0) × (r .third ≡ 0)
 
 -- the three calls with figures
-abbrev pub hasFigures : Call → Bool
-hasFigures (lay n m value config) = false
-hasFigures (openRead i) = false
-hasFigures (openWrite i value) = false
-hasFigures (openChange i target) = false
-hasFigures (poll s) = true
-hasFigures (put s sort) = false
-hasFigures commit = true
-hasFigures abandon = false
-hasFigures (link s state) = false
-hasFigures (reach i) = true
+pub data HasFigures : Call → Type 0 where
+  of-poll : {s : ℕ} → HasFigures (poll s)
+  of-commit : HasFigures commit
+  of-reach : {i : ℕ} → HasFigures (reach i)
 
 pub record Demand1 : Type 0 where
-  pub refusal-changes-nothing : (t : List ℕ) (c : Call) → (reply t c .number ≡ 0 → ⊥) → after t c ≡ t
-  pub refusal-has-no-figures : (t : List ℕ) (c : Call) → (reply t c .number ≡ 0 → ⊥) → ZeroFigures (reply t c)
-  pub other-calls-have-no-figures : (t : List ℕ) (c : Call) → hasFigures c ≡ false → ZeroFigures (reply t c)
+  pub refusal-changes-nothing : (t : Table) (c : Call) → (reply t c .number ≡ 0 → ⊥) → after t c ≡ t
+  pub refusal-has-no-figures : (t : Table) (c : Call) → (reply t c .number ≡ 0 → ⊥) → ZeroFigures (reply t c)
+  pub other-calls-have-no-figures : (t : Table) (c : Call) → (HasFigures c → ⊥) → ZeroFigures (reply t c)
   -- a number of document 01's table; 12 is the frame runner's
-  pub number-is-listed : (t : List ℕ) (c : Call) → reply t c .number ≤ 11
+  pub number-is-listed : (t : Table) (c : Call) → reply t c .number ≤ 11
   -- "three figures of 8 bytes": on bytes each has room for its number
-  pub figures-fit : (t : List ℕ) (c : Call) → AreBytes t → Word (reply t c .first) × Word (reply t c .second) × Word (reply t c .third)
+  pub figures-fit : (t : Table) (c : Call) → AreBytes t → Word (reply t c .first) × Word (reply t c .second) × Word (reply t c .third)
   -- the table keeps its length, and stays a list of bytes
-  pub length-kept : (t : List ℕ) (c : Call) → length (after t c) ≡ length t
-  pub bytes-kept : (t : List ℕ) (c : Call) → AreBytes t → Passable c → AreBytes (after t c)
+  pub length-kept : (t : Table) (c : Call) → length (after t c) ≡ length t
+  pub bytes-kept : (t : Table) (c : Call) → AreBytes t → Passable c → AreBytes (after t c)

@@ -5,23 +5,16 @@ use mathlib.Core.Path.{_≡_}
 use mathlib.Core.Bool.{true, false}
 use mathlib.Core.List.{List}
 use mathlib.Core.Logic.{_↔_, _⊎_}
-use Prim.Native.Nat.{ℕ, _-_, _^_, _≤_, _<_}
-use Rattle.quorum.specs.Sets.{member}
+use Prim.Native.Nat.{ℕ, _-_, _^_}
 use Rattle.quorum.specs.Configurations.{readSet, writeSet}
-use Rattle.quorum.specs.Promise.{Some, LiesIn}
+use Rattle.basics.specs.Tests.{Some}
+use Rattle.quorum.specs.Promise.{LiesIn}
+use Rattle.layout.specs.Newest.{IsNewest}
 use Rattle.layout.specs.Fields.{Kind, none, read, write, change}
 use Rattle.layout.specs.Soundness.{sound}
-use Rattle.layout.specs.View.{State, view}
+use Rattle.layout.specs.View.{Table, State, view, own}
 use Rattle.rules.specs.Calls.{commit}
-use Rattle.rules.specs.Newest.{own}
 use Rattle.rules.specs.Reply.{reply}
-
--- of the stations of a set, as those polled, b has the greatest key, and is the lowest that has it
-pub record Newest (key : ℕ → ℕ) (polled n b : ℕ) : Type 0 where
-  pub station : b < n
-  pub isPolled : member polled b ≡ true
-  pub greatest : (s : ℕ) → s < n → member polled s ≡ true → key s ≤ key b
-  pub lowest : (s : ℕ) → s < b → member polled s ≡ true → key s < key b
 
 -- some set of a side lies within a station set
 abbrev pub QuorumIn : (ℕ → ℕ) → ℕ → Type 0
@@ -31,8 +24,8 @@ QuorumIn side set = Some 8 (LiesIn side set)
 pub record Found (v : State) : Type 0 where
   pub g : ℕ
   pub b : ℕ
-  pub newestGeneration : Newest (λ s. own v s .generation) (v .round .polled) (v .n) g
-  pub newestVersion : Newest (λ s. own v s .version) (v .round .polled) (v .n) b
+  pub newestGeneration : IsNewest (λ s. own v s .generation) (v .round .polled) (v .n) g
+  pub newestVersion : IsNewest (λ s. own v s .version) (v .round .polled) (v .n) b
 
 -- a read quorum of the configuration found lies within the polled set
 abbrev pub Heard : (v : State) → Found v → Type 0
@@ -64,6 +57,6 @@ pub record Commits (v : State) (k : Kind) (number : ℕ) : Type 0 where
   pub noOther : (number ≡ 0) ⊎ ((number ≡ 8) ⊎ ((number ≡ 10) ⊎ (number ≡ 11)))
 
 pub record Demand2 : Type 0 where
-  pub open-round : (t : List ℕ) → sound t ≡ true → (view t .round .kind ≡ none → ⊥) → Commits (view t) (view t .round .kind) (reply t commit .number)
-  pub no-round : (t : List ℕ) → sound t ≡ true → view t .round .kind ≡ none → reply t commit .number ≡ 5
-  pub unsound : (t : List ℕ) → sound t ≡ false → reply t commit .number ≡ 1
+  pub open-round : (t : Table) → sound t ≡ true → (view t .round .kind ≡ none → ⊥) → Commits (view t) (view t .round .kind) (reply t commit .number)
+  pub no-round : (t : Table) → sound t ≡ true → view t .round .kind ≡ none → reply t commit .number ≡ 5
+  pub unsound : (t : Table) → sound t ≡ false → reply t commit .number ≡ 1

@@ -2,10 +2,11 @@
 use mathlib.Core.Path.{_≡_}
 use mathlib.Core.List.{List, [], _∷_}
 use Prim.Native.Nat.{ℕ}
-use Rattle.quorum.specs.Bytes.{AreBytes}
+use Rattle.basics.specs.Bytes.{AreBytes}
+use Rattle.layout.specs.View.{Table}
 use Rattle.rules.specs.Calls.{Call, lay, commit}
-use Rattle.rules.specs.Passed.{Passable}
-use Rattle.rules.specs.Reply.{reply, after}
+use Rattle.rules.specs.Reply.{reply}
+use Rattle.rules.specs.Lists.{replies, AllPassable}
 use Rattle.rules.specs.Book.{Book, Noted, read, write, change, entry, fed}
 use Rattle.rules.specs.declared.Reply.{Reply}
 
@@ -24,21 +25,18 @@ pub record Agrees (before after : Book) (r : Reply) : Type 0 where
   pub writes : r .second ≡ entry (after .items) item .writes
   pub changes : r .third ≡ entry (after .items) item .changes
 
--- the claim over a list, from a table and a book: "Each gets the table's bytes as the call before it left them"
-abbrev pub OneCopy : List ℕ → Book → List Call → Type 0
-OneCopy t b [] = Unit {0}
-OneCopy t b (c ∷ calls) =
-    (c ≡ commit → reply t c .number ≡ 0 → Agrees b (fed b c (reply t c .number)) (reply t c))
-    × OneCopy (after t c) (fed b c (reply t c .number)) calls
-
-abbrev pub AllPassable : List Call → Type 0
-AllPassable [] = Unit {0}
-AllPassable (c ∷ calls) = Passable c × AllPassable calls
+-- the claim over a list of calls and the replies to them, from a book on: the book is fed each call and the number of its reply
+abbrev pub OneCopy : Book → List Call → List Reply → Type 0
+OneCopy b [] [] = Unit {0}
+OneCopy b [] (r ∷ replies) = ⊥
+OneCopy b (c ∷ calls) [] = ⊥
+OneCopy b (c ∷ calls) (r ∷ replies) =
+    (c ≡ commit → r .number ≡ 0 → Agrees b (fed b c (r .number)) r) × OneCopy (fed b c (r .number)) calls replies
 
 -- "The list of demand 3 begins with a lay that replies 0, on bytes of any content. After it come the ten calls above in any order,
 -- with any arguments, refused ones and further lays included." Of the arguments only values and configurations are bounded, by what a
 -- caller can pass (Passed.antt).
 pub record Demand3 : Type 0 where
-  pub one-copy : (t : List ℕ) (b : Book) (n m value : ℕ) (config : List ℕ) (calls : List Call)
+  pub one-copy : (t : Table) (b : Book) (n m value : ℕ) (config : List ℕ) (calls : List Call)
       → AreBytes t → AllPassable (lay n m value config ∷ calls) → reply t (lay n m value config) .number ≡ 0
-      → OneCopy t b (lay n m value config ∷ calls)
+      → OneCopy b (lay n m value config ∷ calls) (replies t (lay n m value config ∷ calls))

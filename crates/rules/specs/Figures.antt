@@ -2,12 +2,13 @@
 use mathlib.Core.Bool.{cond}
 use mathlib.Core.List.{List}
 use Prim.Native.Nat.{ℕ, _+_}
-use Rattle.quorum.specs.Sets.{join, full, minus}
+use Rattle.quorum.specs.Sets.{full, minus}
 use Rattle.quorum.specs.Configurations.{holdsRead, holdsWrite}
+use Rattle.layout.specs.Rounds.{withPoll}
 use Rattle.layout.specs.Fields.{Kind, none, read, write, change}
-use Rattle.layout.specs.View.{State}
+use Rattle.layout.specs.Newest.{byGeneration, hears}
+use Rattle.layout.specs.View.{State, own, foundByVersion, foundByGeneration}
 use Rattle.rules.specs.Calls.{Call, lay, openRead, openWrite, openChange, poll, put, commit, abandon, link, reach}
-use Rattle.rules.specs.Newest.{own, byGeneration, hears, foundByVersion, foundByGeneration}
 
 pub record Figures : Type 0 where
   pub first : ℕ
@@ -37,15 +38,18 @@ reachOf config on = cond (holdsRead config on) (cond (holdsWrite config on) 3 1)
 abbrev pub onBus : State → ℕ
 onBus v = minus (full (v .n)) (v .off)
 
+abbrev pub reachFigure : State → ℕ → ℕ
+reachFigure v i = reachOf (byGeneration (v .copies i) (full (v .n)) (v .n) .config) (onBus v)
+
 -- "Poll's first figure is 1 if the round is now heard. .. Reach has its figure first. All other figures are zero."
 unfoldable pub figuresOf : State → Call → Figures
 figuresOf v (lay n m value config) = noFigures
 figuresOf v (openRead i) = noFigures
 figuresOf v (openWrite i value) = noFigures
 figuresOf v (openChange i target) = noFigures
-figuresOf v (poll s) = oneFigure (cond (hears (own v) (join (v .round .polled) s) (v .n)) 1 0)
+figuresOf v (poll s) = oneFigure (cond (hears (own v) (withPoll (v .round) s .polled) (v .n)) 1 0)
 figuresOf v (put s sort) = noFigures
 figuresOf v commit = closing v (v .round .kind)
 figuresOf v abandon = noFigures
 figuresOf v (link s state) = noFigures
-figuresOf v (reach i) = oneFigure (reachOf (byGeneration (v .copies i) (full (v .n)) (v .n) .config) (onBus v))
+figuresOf v (reach i) = oneFigure (reachFigure v i)

@@ -1,7 +1,7 @@
 -- What a caller can pass, as far as it matters: a value is a number of 64 bits, and a configuration a list of bytes. Of the other
 -- arguments every number is allowed for: one that document 01 does not list gets 2.
 use Prim.Native.Nat.{ℕ, _^_, _<_}
-use Rattle.quorum.specs.Bytes.{AreBytes}
+use Rattle.basics.specs.Bytes.{AreBytes}
 use Rattle.rules.specs.Calls.{Call, lay, openRead, openWrite, openChange, poll, put, commit, abandon, link, reach}
 
 abbrev pub Word : ℕ → Type 0

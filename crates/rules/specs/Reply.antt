@@ -1,9 +1,8 @@
 -- The reply and the table of every input: "For each call, every input determines one reply and one table, refused calls too."
 use mathlib.Core.Bool.{cond}
-use mathlib.Core.List.{List}
 use Prim.Native.Nat.{ℕ}
 use lib.Dec.{eqb}
-use Rattle.layout.specs.View.{view}
+use Rattle.layout.specs.View.{Table, State, view}
 use Rattle.rules.specs.Calls.{Call}
 use Rattle.rules.specs.Rules.{numberOf}
 use Rattle.rules.specs.Figures.{Figures, figuresOf}
@@ -20,10 +19,14 @@ answer k f =
       third = cond (eqb k 0) (f .third) 0;
     }
 
-unfoldable pub reply : List ℕ → Call → Reply
-reply t c = answer (numberOf (view t) c) (figuresOf (view t) c)
+-- the reply as the state gives it, and that of a table
+unfoldable pub replyOf : State → Call → Reply
+replyOf v c = answer (numberOf v c) (figuresOf v c)
+
+abbrev pub reply : Table → Call → Reply
+reply t c = replyOf (view t) c
 
 -- "A refusal leaves the table and every other lent buffer untouched": the table is here; the other buffers are the configuration
 -- slices, which are lent for reading only.
-unfoldable pub after : List ℕ → Call → List ℕ
+unfoldable pub after : Table → Call → Table
 after t c = cond (eqb (numberOf (view t) c) 0) (done t (view t) c) t

@@ -2,14 +2,13 @@
 use mathlib.Core.Bool.{Bool, true, false, not, cond, _&&_, _||_}
 use mathlib.Core.List.{List, [], _∷_}
 use Prim.Native.Nat.{ℕ, _-_, _^_}
-use lib.Dec.{ltb, leb, eqb}
+use lib.Dec.{ltb, eqb}
 use Rattle.quorum.specs.Sets.{member}
 use Rattle.quorum.specs.Configurations.{valid, holdsWrite}
-use Rattle.layout.specs.Layout.{tableLength}
+use Rattle.layout.specs.Layout.{listed}
 use Rattle.layout.specs.Fields.{Kind, none, read, write, change}
-use Rattle.layout.specs.View.{State}
-use Rattle.rules.specs.Calls.{Call, lay, openRead, openWrite, openChange, poll, put, commit, abandon, link, reach, isData, isConfig, isOff, isOn}
-use Rattle.rules.specs.Newest.{foundByVersion, foundByGeneration, heard}
+use Rattle.layout.specs.View.{State, foundByVersion, foundByGeneration, heard}
+use Rattle.rules.specs.Calls.{Call, lay, openRead, openWrite, openChange, poll, put, commit, abandon, link, reach, isLay, isData, isConfigSort, isOff, isOn}
 
 -- tests with their numbers, in the order in which they are made; the first that applies gives the number, 0 is done
 abbrev pub Chain : Type 0
@@ -27,17 +26,13 @@ abbrev pub noItem : State → ℕ → Bool
 noItem v i = not (ltb i (v .m))
 
 abbrev pub noSort : ℕ → Bool
-noSort sort = not (isData sort || isConfig sort)
+noSort sort = not (isData sort || isConfigSort sort)
 
 abbrev pub noLink : ℕ → Bool
 noLink state = not (isOff state || isOn state)
 
 abbrev pub noSize : ℕ → ℕ → Bool
-noSize n m = not (leb 1 n && leb n 16 && leb 1 m && leb m 32)
-
--- the length that a lay needs; for n or m out of range it needs nothing
-unfoldable pub layLength : ℕ → ℕ → ℕ
-layLength n m = cond (noSize n m) 0 (tableLength n m)
+noSize n m = not (listed n m)
 
 -- 4, busy: "an opening while a round is open"; 5, idle: "poll, put, commit, abandon without a round"
 abbrev pub idle : Kind → Bool
@@ -58,7 +53,7 @@ readingOver v = not (eqb (v .round .dataPuts) 0 && eqb (v .round .configPuts) 0)
 abbrev pub wrongPut : Kind → ℕ → Bool
 wrongPut none sort = true
 wrongPut read sort = true
-wrongPut write sort = isConfig sort
+wrongPut write sort = isConfigSort sort
 wrongPut change sort = false
 
 -- 10, spent: "found version is 2^64 − 1 at a data put or commit of a write, or found generation at a configuration put or commit of a
@@ -77,7 +72,7 @@ abbrev pub spentAtPut : State → Kind → ℕ → Bool
 spentAtPut v none sort = false
 spentAtPut v read sort = false
 spentAtPut v write sort = spent v write
-spentAtPut v change sort = isConfig sort && spent v change
+spentAtPut v change sort = isConfigSort sort && spent v change
 
 -- "A write needs data puts that hold a write set of the found configuration. A change needs data puts that hold a write set
 -- of the target, and configuration puts that hold a write set of the old, found configuration (source 000, 5.4)."
@@ -87,33 +82,28 @@ written v read = true
 written v write = holdsWrite (foundByGeneration v .config) (v .round .dataPuts)
 written v change = holdsWrite (v .round .target) (v .round .dataPuts) && holdsWrite (foundByGeneration v .config) (v .round .configPuts)
 
--- "lay tests 2, then 1, then 3", by whether the table's length fits
-abbrev pub layTests : Bool → ℕ → ℕ → List ℕ → Chain
-layTests fits n m config = (noSize n m, 2) ∷ (not fits, 1) ∷ (not (valid n config), 3) ∷ []
-
--- the last tests of a put and of a commit, by the round's kind
-abbrev pub putTests : State → Kind → ℕ → Chain
-putTests v k sort = (wrongPut k sort, 9) ∷ (spentAtPut v k sort, 10) ∷ []
-
+-- the last tests of a commit, by the round's kind
 abbrev pub commitTests : State → Kind → Chain
 commitTests v k = (spent v k, 10) ∷ (not (written v k), 11) ∷ []
 
--- "The lowest number that applies is given"
+-- "The lowest number that applies is given": the tests of each call, but for that of soundness; "lay tests 2, then 1, then 3"
+unfoldable pub tests : State → Call → Chain
+tests v (lay n m value config) = (noSize n m, 2) ∷ (not (v .fits n m), 1) ∷ (not (valid n config), 3) ∷ []
+tests v (openRead i) = (noItem v i, 2) ∷ (not (isIdle v), 4) ∷ []
+tests v (openWrite i value) = (noItem v i, 2) ∷ (not (isIdle v), 4) ∷ []
+tests v (openChange i target) = (noItem v i, 2) ∷ (not (valid (v .n) target), 3) ∷ (not (isIdle v), 4) ∷ []
+tests v (poll s) = (noStation v s, 2) ∷ (isIdle v, 5) ∷ (member (v .off) s, 6) ∷ (readingOver v, 7) ∷ []
+tests v (put s sort) =
+    (noStation v s || noSort sort, 2) ∷ (isIdle v, 5) ∷ (member (v .off) s, 6) ∷ (not (heard v), 8) ∷ (wrongPut (v .round .kind) sort, 9)
+    ∷ (spentAtPut v (v .round .kind) sort, 10) ∷ []
+tests v commit = (isIdle v, 5) ∷ (not (heard v), 8) ∷ commitTests v (v .round .kind)
+tests v abandon = (isIdle v, 5) ∷ []
+tests v (link s state) = (noStation v s || noLink state, 2) ∷ []
+tests v (reach i) = (noItem v i, 2) ∷ []
+
+-- every call but lay asks first whether the table is sound
 unfoldable pub refusals : State → Call → Chain
-refusals v (lay n m value config) = layTests (v .fits n m) n m config
-refusals v (openRead i) = (not (v .isSound), 1) ∷ (noItem v i, 2) ∷ (not (isIdle v), 4) ∷ []
-refusals v (openWrite i value) = (not (v .isSound), 1) ∷ (noItem v i, 2) ∷ (not (isIdle v), 4) ∷ []
-refusals v (openChange i target) =
-    (not (v .isSound), 1) ∷ (noItem v i, 2) ∷ (not (valid (v .n) target), 3) ∷ (not (isIdle v), 4) ∷ []
-refusals v (poll s) =
-    (not (v .isSound), 1) ∷ (noStation v s, 2) ∷ (isIdle v, 5) ∷ (member (v .off) s, 6) ∷ (readingOver v, 7) ∷ []
-refusals v (put s sort) =
-    (not (v .isSound), 1) ∷ (noStation v s || noSort sort, 2) ∷ (isIdle v, 5) ∷ (member (v .off) s, 6) ∷ (not (heard v), 8)
-    ∷ putTests v (v .round .kind) sort
-refusals v commit = (not (v .isSound), 1) ∷ (isIdle v, 5) ∷ (not (heard v), 8) ∷ commitTests v (v .round .kind)
-refusals v abandon = (not (v .isSound), 1) ∷ (isIdle v, 5) ∷ []
-refusals v (link s state) = (not (v .isSound), 1) ∷ (noStation v s || noLink state, 2) ∷ []
-refusals v (reach i) = (not (v .isSound), 1) ∷ (noItem v i, 2) ∷ []
+refusals v c = cond (isLay c) (tests v c) ((not (v .isSound), 1) ∷ tests v c)
 
 unfoldable pub numberOf : State → Call → ℕ
 numberOf v c = first (refusals v c)

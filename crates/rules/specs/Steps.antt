@@ -8,17 +8,17 @@ use mathlib.Core.List.{List}
 use mathlib.Core.Logic.{_↔_}
 use Prim.Native.Nat.{ℕ, _+_, _<_}
 use lib.Dec.{ltb, eqb}
-use Rattle.quorum.specs.Bytes.{AreBytes}
+use Rattle.basics.specs.Bytes.{AreBytes}
 use Rattle.quorum.specs.Sets.{member}
 use Rattle.quorum.specs.Configurations.{readSet, writeSet}
+use Rattle.layout.specs.Newest.{IsNewest}
 use Rattle.layout.specs.Fields.{Kind, none, read, write, change, Round}
-use Rattle.layout.specs.View.{State, view}
+use Rattle.layout.specs.View.{Table, State, view, own}
 use Rattle.layout.specs.Updates.{noTarget}
 use Rattle.rules.specs.Calls.{Call, lay, openRead, openWrite, openChange, poll, put, commit, abandon, link, reach}
 use Rattle.rules.specs.Passed.{Passable}
-use Rattle.rules.specs.Newest.{own}
 use Rattle.rules.specs.Reply.{reply, after}
-use Rattle.rules.specs.Demand2.{Newest, QuorumIn, Found, Heard}
+use Rattle.rules.specs.Demand2.{QuorumIn, Found, Heard}
 use Rattle.rules.specs.declared.Reply.{Reply}
 
 -- ---- sets: b is a with station s, and b is a without it
@@ -135,7 +135,7 @@ pub record Reached (v : State) (i : ℕ) (r : Reply) : Type 0 where
   pub on : ℕ
   pub isOn : (s : ℕ) → member on s ≡ (ltb s (v .n) && not (member (v .off) s))
   pub g : ℕ
-  pub newest : Newest (λ s. v .copies i s .generation) all (v .n) g
+  pub newest : IsNewest (λ s. v .copies i s .generation) all (v .n) g
   pub reads : (r .first ≡ 1) ↔ (QuorumIn (readSet (v .copies i g .config)) on × (QuorumIn (writeSet (v .copies i g .config)) on → ⊥))
   pub writes : (r .first ≡ 3) ↔ (QuorumIn (readSet (v .copies i g .config)) on × QuorumIn (writeSet (v .copies i g .config)) on)
   pub neither : (r .first ≡ 0) ↔ (QuorumIn (readSet (v .copies i g .config)) on → ⊥)
@@ -155,5 +155,5 @@ Step (link s state) v w r = Linked v w s state
 Step (reach i) v w r = Reached v i r
 
 pub record Steps : Type 0 where
-  pub step : (t : List ℕ) (c : Call) → AreBytes t → Passable c → reply t c .number ≡ 0 → Step c (view t) (view (after t c)) (reply t c)
-  pub reach-changes-nothing : (t : List ℕ) (i : ℕ) → after t (reach i) ≡ t
+  pub step : (t : Table) (c : Call) → AreBytes t → Passable c → reply t c .number ≡ 0 → Step c (view t) (view (after t c)) (reply t c)
+  pub reach-changes-nothing : (t : Table) (i : ℕ) → after t (reach i) ≡ t

@@ -3,17 +3,18 @@ use mathlib.Core.Path.{_≡_}
 use mathlib.Core.List.{List}
 use Prim.Native.Nat.{ℕ}
 use lib.ListN.{length}
+use Rattle.layout.specs.View.{Table}
 use Rattle.rules.specs.Calls.{lay, poll, put}
 use Rattle.rules.specs.Reply.{reply, after}
 
 pub record Twice : Type 0 where
   -- "Polling twice changes nothing."
-  pub poll-twice : (t : List ℕ) (s : ℕ) → reply t (poll s) .number ≡ 0 → after (after t (poll s)) (poll s) ≡ after t (poll s)
+  pub poll-twice : (t : Table) (s : ℕ) → reply t (poll s) .number ≡ 0 → after (after t (poll s)) (poll s) ≡ after t (poll s)
   -- Put: "Twice changes nothing."
-  pub put-twice : (t : List ℕ) (s sort : ℕ) → reply t (put s sort) .number ≡ 0
+  pub put-twice : (t : Table) (s sort : ℕ) → reply t (put s sort) .number ≡ 0
       → after (after t (put s sort)) (put s sort) ≡ after t (put s sort)
   -- "Lay looks at nothing but its arguments and the table's length": its reply, and the table after it unless it is refused
-  pub lay-reply : (t u : List ℕ) (n m value : ℕ) (config : List ℕ) → length t ≡ length u
+  pub lay-reply : (t u : Table) (n m value : ℕ) (config : List ℕ) → length t ≡ length u
       → reply t (lay n m value config) ≡ reply u (lay n m value config)
-  pub lay-after : (t u : List ℕ) (n m value : ℕ) (config : List ℕ) → length t ≡ length u → reply t (lay n m value config) .number ≡ 0
+  pub lay-after : (t u : Table) (n m value : ℕ) (config : List ℕ) → length t ≡ length u → reply t (lay n m value config) .number ≡ 0
       → after t (lay n m value config) ≡ after u (lay n m value config)

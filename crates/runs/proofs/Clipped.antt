@@ -8,11 +8,12 @@ use lib.Dec.{leb}
 use lib.ListN.{length, take}
 use lib.Seq.{take-all, length-take-le}
 use borrow.Author.Tests.{leb-true, leb-false}
-use Rattle.quorum.proofs.Tests.{by-cases}
+use Rattle.basics.proofs.Tests.{by-cases}
 use Rattle.frames.specs.Hex.{bytesIn}
 use Rattle.frames.specs.Frame.{callByte, isFrame, callOf}
-use Rattle.runs.specs.Feed.{enough, clip}
-use Rattle.frames.proofs.Framed.{not-frame, frame-length-le}
+use Rattle.runs.specs.Pieces.{enough, clip}
+use Rattle.dispatch.proofs.Codes.{frame-length-le}
+use Rattle.frames.proofs.FrameLines.{not-frame}
 
 clip-all : (line : List ℕ) → length line ≤ enough → clip line ≡ line
 unfolding clip

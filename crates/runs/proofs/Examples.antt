@@ -3,25 +3,28 @@ use mathlib.Core.Path.{_≡_, refl}
 use mathlib.Core.List.{List, [], _∷_, _++_}
 use Prim.Native.Nat.{ℕ}
 use Prim.Native.String.{String}
-use Rattle.quorum.specs.Bytes.{littleEndian}
-use Rattle.quorum.specs.Tests.{all, allBelow, anyBelow}
+use Rattle.basics.specs.Bytes.{littleEndian}
+use Rattle.basics.specs.Tests.{all, allBelow, anyBelow}
 use Rattle.quorum.specs.Sets.{member, used, holds, shares, within, join, minus, remove, full}
-use Rattle.quorum.specs.Configurations.{setAt, readSet, writeSet, usedFirst, someUsed, allWithin, sharesAll, allShare, validity, valid, holdsPlace, holdsRead, holdsWrite}
+use Rattle.quorum.specs.Configurations.{setAt, readSet, writeSet, usedFirst, someUsed, allWithin, sharesAll, allShare}
+use Rattle.quorum.specs.Configurations.{validity, valid, holdsPlace, holdsRead, holdsWrite}
 use Rattle.layout.specs.Layout.{address, tableLength}
 use Rattle.layout.specs.Fields.{copyFrom}
 use Rattle.layout.specs.Soundness.{roundSound, copiesValid, soundness, sound}
 use Rattle.layout.specs.View.{view}
-use Rattle.layout.specs.Updates.{bytesOf, over, setOff, setPolled, setPuts, setRound, putData, putConfig, copyBytes}
-use Rattle.rules.specs.Newest.{newest, byVersion, byGeneration, hears}
-use Rattle.rules.specs.Rules.{layLength, first, refusals, numberOf}
+use Rattle.layout.specs.Updates.{bytesOf, over, setOff, setPolled, setPuts, setRound, putData, putConfig, copyBytes, repeated, putCopies}
+use Rattle.layout.specs.Newest.{newest, byVersion, byGeneration, hears}
+use Rattle.layout.specs.Layout.{layLength}
+use Rattle.rules.specs.Rules.{first, tests, refusals, numberOf}
 use Rattle.rules.specs.Figures.{figuresOf}
-use Rattle.rules.specs.After.{repeated, putCopies, done}
-use Rattle.rules.specs.Reply.{reply, after}
+use Rattle.rules.specs.After.{done}
+use Rattle.rules.specs.Reply.{replyOf, after}
 use Rattle.replies.specs.ReplyLine.{replyBytes, replyLine}
 use Rattle.runs.specs.Session.{lent, replyTo, tableAfter, printed}
 use Rattle.runs.specs.Run.{answers, run}
 use Rattle.frames.specs.Hex.{isDigit, allDigits, valueOf, byteOf, bytesIn, digitOf, hexOf}
-use Rattle.frames.specs.Frame.{frameLength, callByte, isFrame, callsOf, callOf}
+use Rattle.dispatch.specs.Dispatch.{frameLength, callsOf, callAt}
+use Rattle.frames.specs.Frame.{callByte, isFrame, callOf, frameOf}
 use Rattle.runs.specs.Lines.{inFront, linesOf}
 use Rattle.frames.proofs.Text.{chars, text}
 
@@ -84,5 +87,10 @@ refusedReplies = shown
     ∷ [])
 
 runs : run frameCase ∷ run refusedCase ∷ [] ≡ frameReplies ∷ refusedReplies ∷ []
-unfolding text chars shown littleEndian isDigit allDigits valueOf byteOf bytesIn frameLength callByte isFrame callsOf callOf inFront linesOf run answers printed tableAfter replyTo lent layLength replyLine replyBytes digitOf hexOf reply after numberOf refusals first view figuresOf done tableLength address sound soundness roundSound copiesValid all allBelow anyBelow valid validity setAt readSet writeSet usedFirst someUsed allWithin sharesAll allShare holdsPlace holdsRead holdsWrite member used holds shares within join minus remove full copyFrom bytesOf over setOff setPolled setPuts setRound putData putConfig copyBytes repeated putCopies newest byVersion byGeneration hears frameCase frameReplies refusedCase refusedReplies
+unfolding text chars shown littleEndian isDigit allDigits valueOf byteOf bytesIn frameLength callByte isFrame callsOf callAt callOf inFront linesOf
+    run answers printed tableAfter replyTo lent layLength replyLine replyBytes digitOf hexOf replyOf after numberOf tests refusals first view
+    figuresOf done tableLength address sound soundness roundSound copiesValid all allBelow anyBelow valid validity setAt readSet writeSet usedFirst
+    someUsed allWithin sharesAll allShare holdsPlace holdsRead holdsWrite member used holds shares within join minus remove full copyFrom bytesOf over
+    setOff setPolled setPuts setRound putData putConfig copyBytes repeated putCopies newest byVersion byGeneration hears frameCase frameReplies
+    refusedCase refusedReplies
 runs = refl

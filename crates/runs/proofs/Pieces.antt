@@ -6,12 +6,13 @@ use Prim.Native.Nat.{ℕ, zero, suc}
 use lib.Dec.{eqb}
 use lib.ListN.{take}
 use borrow.Author.Tests.{ne-eqb}
-use Rattle.quorum.proofs.Tests.{by-cases}
+use Rattle.basics.proofs.Tests.{by-cases}
 use Rattle.replies.specs.ReplyLine.{lineEnd}
 use Rattle.runs.specs.Session.{replyTo, tableAfter, printed}
 use Rattle.runs.specs.Lines.{inFront, linesOf}
 use Rattle.runs.specs.Run.{answers, run}
-use Rattle.runs.specs.Feed.{enough, clip, State, start, next, printedAt, afterPiece, printedBy, printedLast, inPieces, joined}
+use Rattle.runs.specs.Pieces.{enough, clip, InHand, start, next, printedAt, afterPiece, printedBy}
+use Rattle.runs.specs.Pieces.{printedLast, tableLast, afterLast, tableAfterAll, inPieces, joined}
 use Rattle.runs.specs.Claims.{NoEnd}
 use Rattle.runs.proofs.Clipped.{call-byte-clip, call-clip}
 
@@ -70,10 +71,10 @@ front-none b [] = refl
 front-none b (x ∷ line) = rw (front-none x line)
 
 -- ---- all input, from a table and a line so far on
-abbrev whole : State → List ℕ → List ℕ
+abbrev whole : InHand → List ℕ → List ℕ
 whole s input = printedBy s input ++ printedLast (afterPiece s input .table) (afterPiece s input .line)
 
-abbrev pub keeps : List ℕ → List ℕ → State
+abbrev pub keeps : List ℕ → List ℕ → InHand
 keeps t line = record { table = t; line = clip line }
 
 whole-end : (t line : List ℕ) → printedLast t (clip line) ≡ answers t (front line [])
@@ -100,7 +101,7 @@ next-more t line b e = λ i. record { table = tables i; line = (lines ∙ clip-j
     lines : cond (eqb b lineEnd) [] (clip (clip line ++ (b ∷ []))) ≡ clip (clip line ++ (b ∷ []))
     lines = rw e
 
-whole-step : (s : State) (b : ℕ) (input : List ℕ) → whole s (b ∷ input) ≡ printedAt s b ++ whole (next s b) input
+whole-step : (s : InHand) (b : ℕ) (input : List ℕ) → whole s (b ∷ input) ≡ printedAt s b ++ whole (next s b) input
 unfolding printedBy afterPiece
 whole-step s b input = append-assoc (printedAt s b) _ _
 
@@ -123,23 +124,48 @@ pub run-whole : (input : List ℕ) → whole start input ≡ run input
 unfolding run front clip
 run-whole input = whole-lines [] [] input
 
+-- ---- the table at the end of input
+table-end : (t line : List ℕ) → tableLast t (clip line) ≡ tableAfterAll t (front line [])
+unfolding clip tableAfterAll front
+table-end t [] = refl
+table-end t (b ∷ line) = rw (front-none b line) (table-clip t (b ∷ line))
+
+table-lines : (t line input : List ℕ) → afterLast (afterPiece (keeps t line) input) .table ≡ tableAfterAll t (front line (linesOf input))
+unfolding linesOf tableAfterAll front afterPiece
+table-lines t line [] = table-end t line
+table-lines t line (b ∷ input) =
+    let ended = table-lines (tableAfter t line) [] input in
+    let more = table-lines t (line ++ (b ∷ [])) input in
+    by-cases
+    (λ (e : Bool).
+    eqb b lineEnd ≡ e
+    → afterLast (afterPiece (next (keeps t line) b) input) .table
+    ≡ tableAfterAll t (front line (cond e ([] ∷ linesOf input) (inFront b (linesOf input))))) (eqb b lineEnd)
+    (λ _ e. rw (next-line t line b e, front-line line (linesOf input)) ended)
+    (λ _ e. rw (next-more t line b e, ← front-more line b (linesOf input)) more) refl
+
+pub table-at-the-end : (input : List ℕ) → afterLast (afterPiece start input) .table ≡ tableAfterAll [] (linesOf input)
+unfolding front clip
+table-at-the-end input = table-lines [] [] input
+
 -- ---- pieces
-pub after-append : (s : State) (a b : List ℕ) → afterPiece s (a ++ b) ≡ afterPiece (afterPiece s a) b
+pub after-append : (s : InHand) (a b : List ℕ) → afterPiece s (a ++ b) ≡ afterPiece (afterPiece s a) b
 unfolding afterPiece
 after-append s [] b = refl
 after-append s (x ∷ a) b = after-append (next s x) a b
 
-pub printed-append : (s : State) (a b : List ℕ) → printedBy s (a ++ b) ≡ printedBy s a ++ printedBy (afterPiece s a) b
+pub printed-append : (s : InHand) (a b : List ℕ) → printedBy s (a ++ b) ≡ printedBy s a ++ printedBy (afterPiece s a) b
 unfolding printedBy afterPiece
 printed-append s [] b = refl
 printed-append s (x ∷ a) b =
     rw (printed-append (next s x) a b) (sym (append-assoc (printedAt s x) (printedBy (next s x) a) (printedBy (afterPiece (next s x) a) b)))
 
-pieces-whole : (s : State) (pieces : List (List ℕ)) → inPieces s pieces ≡ whole s (joined pieces)
+pieces-whole : (s : InHand) (pieces : List (List ℕ)) → inPieces s pieces ≡ whole s (joined pieces)
 unfolding inPieces joined printedBy afterPiece
 pieces-whole s [] = refl
 pieces-whole s (piece ∷ pieces) =
-    rw (pieces-whole (afterPiece s piece) pieces, after-append s piece (joined pieces), printed-append s piece (joined pieces)) (sym (append-assoc (printedBy s piece) _ _))
+    let regrouped = sym (append-assoc (printedBy s piece) _ _) in
+    rw (pieces-whole (afterPiece s piece) pieces, after-append s piece (joined pieces), printed-append s piece (joined pieces)) regrouped
 
 pub in-pieces : (pieces : List (List ℕ)) → inPieces start pieces ≡ run (joined pieces)
 in-pieces pieces = pieces-whole start pieces ∙ run-whole (joined pieces)

@@ -5,19 +5,22 @@ use mathlib.Core.List.{List, [], _∷_, _++_}
 use mathlib.Core.Option.{some}
 use Prim.Native.Nat.{ℕ, _*_, _<_}
 use lib.ListN.{length}
-use Rattle.quorum.specs.Bytes.{AreBytes}
+use Rattle.basics.specs.Bytes.{AreBytes}
 use Rattle.rules.specs.Calls.{Call, lay}
 use Rattle.rules.specs.declared.Reply.{Reply}
 use Rattle.rules.specs.Passed.{Passable}
 use Rattle.rules.specs.Book.{Book}
+use Rattle.rules.specs.Lists.{replies}
+use Rattle.rules.specs.Demand3.{OneCopy}
 use Rattle.frames.specs.Hex.{allDigits, bytesIn, hexOf}
 use Rattle.frames.specs.Frame.{callByte, callOf, frameOf, Framable}
-use Rattle.replies.specs.ReplyLine.{lineEnd, replyLine, Showable, Shows}
+use Rattle.replies.specs.ReplyLine.{lineEnd, replyLine, replyLineSize, Showable, Shows}
 use Rattle.runs.specs.Session.{lent, replyTo, tableAfter, printed}
 use Rattle.runs.specs.Lines.{linesOf}
 use Rattle.runs.specs.Run.{run}
-use Rattle.runs.specs.Feed.{clip, start, inPieces, joined}
-use Rattle.runs.specs.Calls.{ShowsTheBook, callsOn, repliesOn, NoLayDone, repliesOf}
+use Rattle.replies.specs.ReplyLine.{replyLineSize}
+use Rattle.runs.specs.Pieces.{clip, start, afterPiece, afterLast, tableAfterAll, inPieces, joined}
+use Rattle.runs.specs.Calls.{callsIn, repliesIn, callsOn, repliesOn, NoLayDone}
 
 -- no byte of a line ends it
 abbrev pub NoEnd : List ℕ → Type 0
@@ -35,10 +38,11 @@ pub record Claims : Type 0 where
   -- ---- frames
   -- the calls of frames are such as a caller can pass (Passed.antt of the rules)
   pub passable : (line : List ℕ) (c : Call) → callOf line ≡ some c → Passable c
-  -- every call whose arguments fit has a frame, and the frame stands for it
+  -- every call whose arguments fit has a frame, which stands for it; and a line that stands for a call is its frame
   pub has-frame : (c : Call) → Framable c → callOf (hexOf (frameOf c)) ≡ some c
+  pub is-its-frame : (line : List ℕ) (c : Call) → callOf line ≡ some c → (line ≡ hexOf (frameOf c)) × Framable c
   -- ---- reply lines: 52 characters and the line end; the call byte, the number and the figures are read back from them
-  pub reply-length : (call : ℕ) (r : Reply) → length (replyLine call r) ≡ 53
+  pub reply-length : (call : ℕ) (r : Reply) → length (replyLine call r) ≡ replyLineSize
   pub reply-read-back : (call : ℕ) (r : Reply) → call < 256 → Showable r → Shows (bytesIn (replyLine call r)) call r
   -- ---- every line of a session on bytes prints what `replyTo` replies, each figure whole, and leaves bytes
   pub prints-the-reply : (t line : List ℕ) → AreBytes t → Shows (bytesIn (printed t line)) (callByte line) (replyTo t line)
@@ -47,11 +51,13 @@ pub record Claims : Type 0 where
   pub cut-line : (t line : List ℕ) → (printed t (clip line) ≡ printed t line) × (tableAfter t (clip line) ≡ tableAfter t line)
   -- ---- no line is lost or split however the input is cut into reads
   pub in-pieces : (pieces : List (List ℕ)) → inPieces start pieces ≡ run (joined pieces)
+  -- the table in hand at the end of input is the one after its lines
+  pub table-at-the-end : (input : List ℕ) → afterLast (afterPiece start input) .table ≡ tableAfterAll [] (linesOf input)
   -- ---- demand 3 of a run: every commit line that replies 0, in any input, shows the figures of the book that is fed the calls of
   -- the frames with the numbers printed, whatever the book held at first
-  pub shows-the-book : (input : List ℕ) (b : Book) → ShowsTheBook [] b (linesOf input)
+  pub shows-the-book : (input : List ℕ) (b : Book) → OneCopy b (callsIn (linesOf input)) (repliesIn [] (linesOf input))
   -- a lay that replies 0 begins a stretch of the session that is a list of demand 3, and the session replies as that list does
   pub list-of-demand-3 : (t line : List ℕ) (n m value : ℕ) (config : List ℕ) (lines : List (List ℕ))
       → callOf line ≡ some (lay n m value config) → replyTo t line .number ≡ 0 → NoLayDone (tableAfter t line) lines
       → replyTo t line ∷ repliesOn (tableAfter t line) lines
-      ≡ repliesOf (lent t (lay n m value config)) (lay n m value config ∷ callsOn lines)
+      ≡ replies (lent t (lay n m value config)) (lay n m value config ∷ callsOn lines)

@@ -1,6 +1,6 @@
 pub mod Session
 pub mod Lines
 pub mod Run
-pub mod Feed
+pub mod Pieces
 pub mod Calls
 pub mod Claims

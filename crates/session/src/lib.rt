@@ -2,130 +2,49 @@
 ghost use mathlib.Core.Path.{_≡_};
 ghost use Prim.Native.Nat.{_+_, _≤_};
 ghost use lib.ListN.{length, take};
-ghost use Rattle.quorum.specs.Bytes.{number};
 ghost use Rattle.layout.specs.Updates.{over};
-ghost use Rattle.runs.specs.Session.{replyOr, tableOr, tableAfter, printed};
-ghost use Rattle.session.specs.Performing.{Holds};
-ghost use Rattle.frames.specs.Frame.{callAt};
-use frames::frame;
-use rules::Reply;
-use store::number::lay_length;
+ghost use Rattle.dispatch.specs.Dispatch.{callAt};
+ghost use Rattle.frames.specs.Reading.{mostArguments};
+ghost use Rattle.replies.specs.ReplyLine.{replyLineSize};
+ghost use Rattle.runs.specs.Session.{tableAfter, printed};
+ghost use Rattle.layout.specs.Layout.{largest};
+ghost use Rattle.session.specs.Buffer.{InUse, lentLength};
+use dispatch::LAY;
+use dispatch::perform;
+use frames::frame::MOST_ARGUMENTS;
+use frames::frame::call_byte;
+use frames::frame::read_frame;
+use replies::write_reply;
+use table::head::lay_length;
+use table::number::byte_at;
 
-// The reply to a call, and the length of the table in use after it.
-pub struct Performed {
-    pub reply: Reply,
-    pub used: usize,
-}
-
-// Lay, lent just the length that its n and m need; a refused lay keeps the old table.
-fn perform_lay(bytes: &[u8], table: &mut [u8], used: usize) -> Performed
-    requires { ⌜ (length (now bytes) ≡ 43) × (length (now table) ≡ 28728) × (used ≤ 28728) ⌝ }
-    ensures { λ r. ⌜ r .reply ≡ replyOr (take used (now (table .entry))) (callAt 1 (now (bytes .entry))) ⌝ }
-    ensures { λ r. ⌜ Holds (now (table .entry)) (now (table .exit)) (r .used) (tableOr (take used (now (table .entry))) (callAt 1 (now (bytes .entry)))) ⌝ }
+// The length of the buffer that a call is lent: what a lay's n and m need, or the table in use.
+fn lent_length(code: u8, arguments: &[u8], used: usize) -> usize
+    requires { ⌜ (length (now arguments) ≡ mostArguments) × (used ≤ largest) ⌝ }
+    ensures { λ r. ⌜ r ≡ lentLength used (callAt code (now (arguments .entry))) ⌝ }
+    ensures { λ r. ⌜ r ≤ largest ⌝ }
 {
-    let n = frame::byte_at(bytes, 1);
-    let m = frame::byte_at(bytes, 2);
-    let value = frame::value_at(bytes, 3);
-    let need = lay_length(n, m);
-    let r = ospreyscreen::ospreyscreen_lay(&mut table[..need], n, m, value, &bytes[11..43]);
-    if r.number == 0 {
-        return Performed {
-            reply: r,
-            used: need,
-        };
+    if code != LAY {
+        return used;
     }
-    Performed { reply: r, used }
-}
-
-// The call of a frame's code and bytes, on the table in use; any other code gets 12.
-fn perform(code: u8, bytes: &[u8], table: &mut [u8], used: usize) -> Performed
-    requires { ⌜ (length (now bytes) ≡ 43) × (length (now table) ≡ 28728) × (used ≤ 28728) ⌝ }
-    ensures { λ r. ⌜ r .reply ≡ replyOr (take used (now (table .entry))) (callAt code (now (bytes .entry))) ⌝ }
-    ensures { λ r. ⌜ Holds (now (table .entry)) (now (table .exit)) (r .used) (tableOr (take used (now (table .entry))) (callAt code (now (bytes .entry)))) ⌝ }
-{
-    match code {
-        1 => {
-            return perform_lay(bytes, table, used);
-        }
-        2 => {
-            let r = ospreyscreen::ospreyscreen_open_read(
-                &mut table[..used],
-                frame::byte_at(bytes, 1),
-            );
-            return Performed { reply: r, used };
-        }
-        3 => {
-            let r = ospreyscreen::ospreyscreen_open_write(
-                &mut table[..used],
-                frame::byte_at(bytes, 1),
-                frame::value_at(bytes, 2),
-            );
-            return Performed { reply: r, used };
-        }
-        4 => {
-            let r = ospreyscreen::ospreyscreen_open_change(
-                &mut table[..used],
-                frame::byte_at(bytes, 1),
-                &bytes[2..34],
-            );
-            return Performed { reply: r, used };
-        }
-        5 => {
-            let r = ospreyscreen::ospreyscreen_poll(&mut table[..used], frame::byte_at(bytes, 1));
-            return Performed { reply: r, used };
-        }
-        6 => {
-            let r = ospreyscreen::ospreyscreen_put(
-                &mut table[..used],
-                frame::byte_at(bytes, 1),
-                frame::byte_at(bytes, 2),
-            );
-            return Performed { reply: r, used };
-        }
-        7 => {
-            let r = ospreyscreen::ospreyscreen_commit(&mut table[..used]);
-            return Performed { reply: r, used };
-        }
-        8 => {
-            let r = ospreyscreen::ospreyscreen_abandon(&mut table[..used]);
-            return Performed { reply: r, used };
-        }
-        9 => {
-            let r = ospreyscreen::ospreyscreen_link(
-                &mut table[..used],
-                frame::byte_at(bytes, 1),
-                frame::byte_at(bytes, 2),
-            );
-            return Performed { reply: r, used };
-        }
-        10 => {
-            let r = ospreyscreen::ospreyscreen_reach(&table[..used], frame::byte_at(bytes, 1));
-            return Performed { reply: r, used };
-        }
-        _ => {
-            let r = Reply {
-                number: 12,
-                first: 0,
-                second: 0,
-                third: 0,
-            };
-            return Performed { reply: r, used };
-        }
-    }
+    lay_length(byte_at(arguments, 0) as u64, byte_at(arguments, 1) as u64)
 }
 
 // Answers one line, without its end, on the table in the first `used` bytes of the buffer: the reply line goes to a place of
 // the output, and the length of the table in use after it is returned.
 pub fn answer(line: &[u8], table: &mut [u8], used: usize, out: &mut [u8], at: usize) -> usize
-    requires { ⌜ (length (now table) ≡ 28728) × (used ≤ 28728) × (at + 53 ≤ length (now out)) ⌝ }
-    ensures { λ r. ⌜ Holds (now (table .entry)) (now (table .exit)) r (tableAfter (take used (now (table .entry))) (now (line .entry))) ⌝ }
+    requires { ⌜ (length (now table) ≡ largest) × (used ≤ largest) × (at + replyLineSize ≤ length (now out)) ⌝ }
+    ensures { λ r. ⌜ InUse (now (table .entry)) (now (table .exit)) r (tableAfter (take used (now (table .entry))) (now (line .entry))) ⌝ }
     ensures { λ _. ⌜ now (out .exit) ≡ over (now (out .entry)) at (printed (take used (now (table .entry))) (now (line .entry))) ⌝ }
 {
-    let f = frame::read_frame(line);
-    let code = f.code;
-    let bytes = f.bytes;
-    let p = perform(code, &bytes, table, used);
-    let r = p.reply;
-    replies::write_reply(frame::call_byte(line), r, out, at);
-    p.used
+    let call = call_byte(line);
+    let mut arguments = [0u8; MOST_ARGUMENTS];
+    let code = read_frame(line, call, &mut arguments);
+    let lend = lent_length(code, &arguments, used);
+    let r = perform(&mut table[..lend], code, &arguments);
+    write_reply(call, r, out, at);
+    if r.number == 0 {
+        return lend;
+    }
+    used
 }

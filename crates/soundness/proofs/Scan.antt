@@ -8,12 +8,12 @@ use native.Mathlib.Nat.{add-assoc, add-zero, add-suc, mul-comm, suc-mul, zero-mu
 use lib.ListN.{length, getD, take, drop}
 use lib.Dec.{ltb, leb, eqb}
 use borrow.Author.Tests.{eq-eqb, eqb-true, leb-true}
-use Rattle.quorum.specs.Tests.{all, allBelow}
-use Rattle.quorum.specs.Bytes.{number}
+use Rattle.basics.specs.Tests.{all, allBelow}
+use Rattle.basics.specs.Bytes.{number}
 use Rattle.quorum.specs.Sets.{shares, within, unite}
 use Rattle.quorum.specs.Configurations.{valid, validAt, validTo}
-use Rattle.quorum.proofs.Tests.{by-cases, same-test, and-left, and-right, and-both, all-true, all-same}
-use Rattle.quorum.proofs.Bytes.{number-none, number-suc}
+use Rattle.basics.proofs.Tests.{by-cases, same-test, and-left, and-right, and-both, all-true, all-same}
+use Rattle.basics.proofs.Bytes.{number-none, number-suc}
 use Rattle.quorum.proofs.Promise.{promise}
 use Rattle.layout.specs.Layout.{kindAt, itemAt, spareAt, targetAt, copyConfigAt, copySize, address, tableLength}
 use Rattle.layout.specs.Fields.{Kind, none, read, write, change, kindOf, stations, items, offSet, roundOf, copyFrom}
@@ -69,10 +69,6 @@ pub kind-word : (t : List ℕ) → number t kindAt 1 ≡ 0 → isZero t kindAt (
 kind-word t e = rw (first-zero t kindAt 7, ← number-one t kindAt, e)
 
 -- ---- tests
--- one that cannot pass fails
-pub fails : {b : Bool} → (b ≡ true → ⊥) → false ≡ b
-fails {b} h = by-cases (λ c. false ≡ c) b (λ e. absurd (h e)) (λ _. refl)
-
 -- the numbers below a product
 all-pairs : (p : ℕ → Bool) (n m : ℕ) → allBelow (λ i. allBelow (λ s. p (i * n + s)) n) m ≡ allBelow p (m * n)
 unfolding allBelow

@@ -5,12 +5,12 @@ use mathlib.Core.List.{List}
 use Prim.Native.Nat.{ℕ, _+_, _-_, _*_}
 use lib.ListN.{take}
 use lib.Dec.{ltb, leb, eqb}
-use Rattle.quorum.specs.Tests.{all}
-use Rattle.quorum.specs.Bytes.{number}
+use Rattle.basics.specs.Tests.{all}
+use Rattle.basics.specs.Bytes.{number}
 use Rattle.quorum.specs.Sets.{shares, within, unite}
 use Rattle.quorum.specs.Configurations.{valid, validTo}
-use Rattle.layout.specs.Layout.{kindAt, spareAt, targetAt, copySize}
-use Rattle.layout.specs.Fields.{Kind, none, read, write, change, stations, items, offSet, roundOf}
+use Rattle.layout.specs.Layout.{kindAt, spareAt, valueAt, targetAt, copySize}
+use Rattle.layout.specs.Fields.{Kind, none, read, write, change, kindByte, stations, items, offSet, roundOf}
 use Rattle.layout.specs.Soundness.{isZero, roundSound, soundness}
 
 -- the length, n and m
@@ -20,12 +20,12 @@ sizeSound t = all (take 5 (soundness t))
 -- the rest of the head, but for what the round's kind asks of it; its four sets are tested as one
 unfoldable pub headSound : List ℕ → Bool
 headSound t =
-    leb (number t kindAt 1) 3
+    leb (number t kindAt 1) (kindByte change)
     && ltb (roundOf t .item) (items t)
     && within (stations t) (unite (unite (unite (offSet t) (roundOf t .polled)) (roundOf t .dataPuts)) (roundOf t .configPuts))
     && not (shares (roundOf t .dataPuts) (offSet t))
     && not (shares (roundOf t .configPuts) (offSet t))
-    && isZero t spareAt 4
+    && isZero t spareAt (valueAt - spareAt)
 
 -- what the round's kind asks of the head, without a change's target; and the target
 unfoldable pub roundBlank : List ℕ → Kind → Bool

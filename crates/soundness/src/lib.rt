@@ -7,22 +7,24 @@ ghost use Rattle.layout.specs.Layout.{headSize};
 ghost use Rattle.layout.specs.Fields.{roundOf};
 ghost use Rattle.layout.specs.Soundness.{isZero, sound};
 ghost use Rattle.soundness.specs.Scan.{sizeSound, headSound, roundBlank, restSound};
-use layout::copy::COPY_SIZE;
-use layout::head;
-use layout::head::HEAD_SIZE;
-use layout::head::KIND_AT;
-use layout::head::SPARE_AT;
-use layout::head::TARGET_AT;
-use layout::head::VALUE_AT;
-use layout::number::u32_at;
-use layout::number::u64_at;
 use quorum::is_within;
 use quorum::share_station;
 use quorum::united;
+use table::copy::COPIES_AT;
+use table::copy::COPY_SIZE;
+use table::head;
+use table::head::CHANGE;
+use table::head::HEAD_SIZE;
+use table::head::KIND_AT;
+use table::head::NO_ROUND;
+use table::head::READ;
+use table::head::SPARE_AT;
+use table::head::TARGET_AT;
+use table::head::VALUE_AT;
+use table::head::WRITE;
+use table::number::u32_at;
+use table::number::u64_at;
 use validity::all_valid;
-
-// The round's kind of a change.
-const CHANGE: usize = 3;
 
 // Whether the table is sound. The compiler repeats this function in every call, the tests of length and head with it, and enters
 // the rest from two places: so a table with a false head is refused without another function.
@@ -50,7 +52,7 @@ fn size_ok(t: &[u8]) -> bool
     }
     let n = head::stations(t);
     let m = head::items(t);
-    (t.len() == HEAD_SIZE + COPY_SIZE * (n * m)) & (1 <= n) & (n <= 16) & (1 <= m) & (m <= 32)
+    (t.len() == COPIES_AT + COPY_SIZE * (n * m)) & (1 <= n) & (n <= 16) & (1 <= m) & (m <= 32)
 }
 
 // Whether the rest of the head is sound, but for what the round's kind asks of it.
@@ -62,7 +64,7 @@ fn head_ok(t: &[u8]) -> bool
     let off = head::off_set(t);
     let data_puts = head::data_puts(t);
     let config_puts = head::config_puts(t);
-    (head::kind(t) <= 3)
+    (head::kind(t) <= CHANGE)
         & (head::item(t) < head::items(t))
         & is_within(
             united(united(united(off, head::polled(t)), data_puts), config_puts),
@@ -79,9 +81,11 @@ fn round_ok(t: &[u8]) -> bool
     ensures { λ r. ⌜ r ≡ roundBlank (now (t .entry)) (roundOf (now (t .entry)) .kind) ⌝ }
 {
     match head::kind(t) {
-        0 => blank_words(t, KIND_AT, 1) & blank_words(t, VALUE_AT, 5),
-        1 => (head::data_puts(t) == 0) & (head::config_puts(t) == 0) & blank_words(t, VALUE_AT, 5),
-        2 => (head::config_puts(t) == 0) & blank_words(t, TARGET_AT, 4),
+        NO_ROUND => blank_words(t, KIND_AT, 1) & blank_words(t, VALUE_AT, 5),
+        READ => (head::data_puts(t) == 0)
+            & (head::config_puts(t) == 0)
+            & blank_words(t, VALUE_AT, 5),
+        WRITE => (head::config_puts(t) == 0) & blank_words(t, TARGET_AT, 4),
         _ => head::value(t) == 0,
     }
 }

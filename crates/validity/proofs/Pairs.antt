@@ -14,9 +14,12 @@ use Rattle.quorum.specs.Sets.{member, used, holds, shares, within, minus, full}
 use Rattle.quorum.specs.Configurations.{setAt, readSet, writeSet, valid}
 use Rattle.validity.specs.Pairs.{filled, filledSide, rowOk, pairsOk, four, FourFit, outsideOf, fourWithin}
 use Rattle.quorum.specs.Promise.{Side, Valid}
-use Rattle.quorum.proofs.Tests.{clash, by-cases, same-test, and-left, and-right, and-both, all-below, below-all}
-use Rattle.quorum.proofs.Members.{member-empty, member-minus, member-full, member-holds, shares-members, used-member, within-members, full-all}
-use Rattle.quorum.proofs.Validity.{valid-facts, facts-valid, first-used}
+use Rattle.basics.proofs.Tests.{clash, by-cases, fails, same-test, and-left, and-right, and-both, all-below, below-all}
+use Rattle.quorum.proofs.Promise.{promise}
+
+-- a configuration without the facts of a valid one fails the test
+pub invalid : (n : ℕ) (c : List ℕ) → (Valid n c → ⊥) → false ≡ valid n c
+invalid n c h = sym (fails (valid n c) (λ e. h (promise .valid-exactly n c .0 e)))
 
 -- ---- a filled place
 unused : (a : ℕ) → used a ≡ false → a ≡ 0
@@ -43,7 +46,7 @@ unfolding filled
 filled-end a b e f = rw (unused a e, unused b f, or-zero-l)
 
 every-station : (i : ℕ) → i < 16 → member 65535 i ≡ true
-every-station i l = ap (λ x. member x i) (full-all 16 (le-refl 16)) ∙ member-full 16 i (le-refl 16) ∙ lt-ltb i 16 l
+every-station i l = ap (λ x. member x i) (promise .full-16) ∙ promise .member-full 16 i (le-refl 16) ∙ lt-ltb i 16 l
 
 -- ---- the places of a side, filled
 abbrev after : (ℕ → ℕ) → ℕ → ℕ
@@ -81,7 +84,7 @@ no-gap : (side : ℕ → ℕ) (k : ℕ) → k < 7 → (i : ℕ) → member (plac
 no-gap side k l i m u =
     let ne : eqb k 7 ≡ false = ne-eqb k 7 (λ e. omega arith) in
     either (used (side k)) (λ e. e)
-    (λ e. clash m (rw (ne, filled-gap (side k) (side (suc k)) e u) (member-empty i)))
+    (λ e. clash m (rw (ne, filled-gap (side k) (side (suc k)) e u) (promise .member-empty i)))
 
 module _ (n : ℕ) (side : ℕ → ℕ) (l : n ≤ 16) (s : Side n side) where
   -- in a valid side an unused place stands for all stations
@@ -101,7 +104,7 @@ module _ (n : ℕ) (side : ℕ → ℕ) (l : n ≤ 16) (s : Side n side) where
   some-station : (k : ℕ) → k < 8 → (i : ℕ) × (i < 16) × (member (place side k) i ≡ true)
   some-station k h =
       ⊎-elim
-      (λ p. let m = used-member (side k) .0 (p .0) in let r = s .inRange k h (m .0) (m .1) in (m .0, omega arith, rw (p .1) (m .1)))
+      (λ p. let m = promise .used-member (side k) .0 (p .0) in let r = s .inRange k h (m .0) (m .1) in (m .0, omega arith, rw (p .1) (m .1)))
       (λ e. (0, omega arith, rw e (every-station 0 (omega arith)))) (used-or-all k h)
 
 -- ---- all pairs
@@ -130,16 +133,16 @@ module _ (c : List ℕ) where
 
     all-reads : r ≡ 65535 → shares r w ≡ true
     all-reads e =
-        let m = some-station n (writeSet c) (v .small) (v .writes) k l in shares-members r w .1 (m .0, rw e (every-station (m .0) (m .1)), m .2)
+        let m = some-station n (writeSet c) (v .small) (v .writes) k l in promise .shares-member r w .1 (m .0, rw e (every-station (m .0) (m .1)), m .2)
 
     all-writes : w ≡ 65535 → shares r w ≡ true
     all-writes e =
-        let m = some-station n (readSet c) (v .small) (v .reads) j h in shares-members r w .1 (m .0, m .2, rw e (every-station (m .0) (m .1)))
+        let m = some-station n (readSet c) (v .small) (v .reads) j h in promise .shares-member r w .1 (m .0, m .2, rw e (every-station (m .0) (m .1)))
 
     valid-pair : shares r w ≡ true
     valid-pair =
         ⊎-elim
-        (λ p. ⊎-elim (λ q. rw (p .1, q .1) (shares-members (readSet c j) (writeSet c k) .1 (v .meet j k h l (p .0) (q .0)))) all-writes
+        (λ p. ⊎-elim (λ q. rw (p .1, q .1) (promise .shares-member (readSet c j) (writeSet c k) .1 (v .meet j k h l (p .0) (q .0)))) all-writes
         (used-or-all n (writeSet c) (v .small) (v .writes) k l)) all-reads (used-or-all n (readSet c) (v .small) (v .reads) j h)
 
 -- ---- four sets in one number
@@ -147,12 +150,12 @@ module _ (c : List ℕ) where
 member-outside : (n i : ℕ) → n ≤ 16 → member (65535 - full n) i ≡ (ltb i 16 && not (ltb i n))
 unfolding minus holds
 member-outside n i l =
-    ap (λ x. member (65535 - x) i) (sym inner) ∙ member-minus i 65535 (full n)
-    ∙ ap (λ b. b && not (member (full n) i)) (ap (λ x. member x i) (full-all 16 (le-refl 16)) ∙ member-full 16 i (le-refl 16))
-    ∙ ap (λ b. ltb i 16 && not b) (member-full n i l)
+    ap (λ x. member (65535 - x) i) (sym inner) ∙ promise .member-minus 65535 (full n) i
+    ∙ ap (λ b. b && not (member (full n) i)) (ap (λ x. member x i) (promise .full-16) ∙ promise .member-full 16 i (le-refl 16))
+    ∙ ap (λ b. ltb i 16 && not b) (promise .member-full n i l)
   where
     inner : bitAnd 65535 (full n) ≡ full n
-    inner = eqb-true _ _ (member-holds 65535 (full n) (λ j m. let h = ltb-true j n (sym (member-full n j l) ∙ m) in every-station j (omega arith)))
+    inner = eqb-true _ _ (promise .holds-members 65535 (full n) .1 (λ j m. let h = ltb-true j n (sym (promise .member-full n j l) ∙ m) in every-station j (omega arith)))
 
 -- a set of 16 bits has none of them exactly if it lies within n
 module _ (n s : ℕ) (l : n ≤ 16) (h : s < 65536) where
@@ -162,18 +165,18 @@ module _ (n s : ℕ) (l : n ≤ 16) (h : s < 65536) where
   outer : (i : ℕ) → member s i ≡ true → ltb i n ≡ false → member rest i ≡ true
   unfolding within
   outer i m f =
-      let q = within-members 16 s .0 (lt-ltb s (2 ^ 16) h) i m in
+      let q = promise .within-member 16 s i (lt-ltb s (2 ^ 16) h) m in
       member-outside n i l ∙ and-both (ltb i 16) (not (ltb i n)) (lt-ltb i 16 q) (ap not f)
 
   lane-within : eqb (bitAnd s rest) 0 ≡ within n s
   unfolding shares
   lane-within =
       same-test _ _
-      (λ e. within-members n s .1 (λ i m. either (ltb i n) (ltb-true i n)
-      (λ f. clash (shares-members s rest .1 (i, m, outer i m f)) (ap not e))))
+      (λ e. promise .member-within n s (λ i m. either (ltb i n) (ltb-true i n)
+      (λ f. clash (promise .shares-member s rest .1 (i, m, outer i m f)) (ap not e))))
       (λ w. either (eqb (bitAnd s rest) 0) (λ e. e)
-      (λ e. let m = shares-members s rest .0 (ap not e) in
-      let q = within-members n s .0 w (m .0) (m .1) in
+      (λ e. let m = promise .shares-member s rest .0 (ap not e) in
+      let q = promise .within-member n s (m .0) w (m .1) in
       clash (and-right (ltb (m .0) 16) (not (ltb (m .0) n)) (sym (member-outside n (m .0) l) ∙ m .2)) (ap not (lt-ltb (m .0) n q))))
 
 -- numbers of which each has 16 bits more
@@ -269,32 +272,32 @@ module _ (n : ℕ) (c : List ℕ) where
   pub valid-is-inside : Valid n c → inside ≡ true
   unfolding readSet writeSet
   valid-is-inside v =
-      inside-all (λ k l. either (ltb k 8) (λ q. within-members n (setAt c k) .1 (v .reads .inRange k (ltb-true k 8 q)))
+      inside-all (λ k l. either (ltb k 8) (λ q. promise .member-within n (setAt c k) (v .reads .inRange k (ltb-true k 8 q)))
       (λ q. let h = ltb-false k 8 q in let z : 8 + (k - 8) ≡ k = omega arith in
-      rw z at (within-members n (setAt c (8 + (k - 8))) .1 (v .writes .inRange (k - 8) (omega arith)))))
+      rw z at (promise .member-within n (setAt c (8 + (k - 8))) (v .writes .inRange (k - 8) (omega arith)))))
 
   -- and what passes is valid if its first two sets share a station
   module _ (p : 1 ≤ n) (l : n ≤ 16) (long : length c ≡ 32) (paired : pairsOk c ≡ true) (in-range : inside ≡ true) where
     abbrev pair : (j k : ℕ) → j < 8 → k < 8 → (i : ℕ) × (member (place (readSet c) j) i ≡ true) × (member (place (writeSet c) k) i ≡ true)
-    pair j k h m = shares-members (place (readSet c) j) (place (writeSet c) k) .0 (pairs-all c paired j k h m)
+    pair j k h m = promise .shares-member (place (readSet c) j) (place (writeSet c) k) .0 (pairs-all c paired j k h m)
 
     paired-valid : shares (setAt c 0) (setAt c 8) ≡ true → Valid n c
     unfolding readSet writeSet
     paired-valid e =
-        let first = shares-members (setAt c 0) (setAt c 8) .0 e in
+        let first = promise .shares-member (setAt c 0) (setAt c 8) .0 e in
         record {
           positive = p;
           small = l;
           long = long;
           reads = record {
             packed = λ k h. let m = pair k 0 (omega arith) (omega arith) in no-gap (readSet c) k h (m .0) (m .1);
-            some = (0, omega arith, used-member (setAt c 0) .1 (first .0, first .1));
-            inRange = λ k h. within-members n (setAt c k) .0 (all-inside in-range k (omega arith));
+            some = (0, omega arith, promise .used-member (setAt c 0) .1 (first .0, first .1));
+            inRange = λ k h. λ i. promise .within-member n (setAt c k) i (all-inside in-range k (omega arith));
           };
           writes = record {
             packed = λ k h. let m = pair 0 k (omega arith) (omega arith) in no-gap (writeSet c) k h (m .0) (m .2);
-            some = (0, omega arith, used-member (setAt c 8) .1 (first .0, first .2));
-            inRange = λ k h. within-members n (setAt c (8 + k)) .0 (all-inside in-range (8 + k) (omega arith));
+            some = (0, omega arith, promise .used-member (setAt c 8) .1 (first .0, first .2));
+            inRange = λ k h. λ i. promise .within-member n (setAt c (8 + k)) i (all-inside in-range (8 + k) (omega arith));
           };
           meet = λ j k h m u v. let s = pair j k h m in (s .0, rw (filled-used (setAt c j) _ u) at (s .1), rw (filled-used (setAt c (8 + k)) _ v) at (s .2));
         }
@@ -302,8 +305,8 @@ module _ (n : ℕ) (c : List ℕ) where
     pub paired-is-valid : shares (setAt c 0) (setAt c 8) ≡ valid n c
     unfolding readSet writeSet
     paired-is-valid =
-        same-test _ _ (λ e. facts-valid n c (paired-valid e))
-        (λ e. let v = valid-facts n c e in
-        let r = first-used n (readSet c) (v .reads) in
-        let w = first-used n (writeSet c) (v .writes) in
-        shares-members (setAt c 0) (setAt c 8) .1 (v .meet 0 0 (omega arith) (omega arith) r w))
+        same-test _ _ (λ e. promise .valid-exactly n c .1 (paired-valid e))
+        (λ e. let v = promise .valid-exactly n c .0 e in
+        let r = promise .first-used n (readSet c) (v .reads) in
+        let w = promise .first-used n (writeSet c) (v .writes) in
+        promise .shares-member (setAt c 0) (setAt c 8) .1 (v .meet 0 0 (omega arith) (omega arith) r w))

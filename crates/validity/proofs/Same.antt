@@ -10,11 +10,11 @@ use lib.ListN.{length, getD, drop, length-take, length-drop}
 use lib.Seq.{take-all, ext-getD, getD-take, getD-drop}
 use lib.Dec.{eqb, ltb}
 use borrow.Author.Tests.{eqb-true, ltb-true, ltb-false}
-use Rattle.quorum.specs.Tests.{allBelow}
-use Rattle.quorum.specs.Bytes.{part}
+use Rattle.basics.specs.Tests.{allBelow}
+use Rattle.basics.specs.Bytes.{part}
 use Rattle.quorum.specs.Configurations.{valid, validAt, validTo}
 use Rattle.validity.specs.Pairs.{sameAgain, sameLane, sameBlock}
-use Rattle.quorum.proofs.Tests.{clash, by-cases, and-both, all-below, below-all}
+use Rattle.basics.proofs.Tests.{clash, by-cases, and-both, all-below, below-all}
 
 part-length : (t : List ℕ) (a w : ℕ) → a + w ≤ length t → length (part t a w) ≡ w
 part-length t a w h = simp (length-take, length-drop) (omega arith)

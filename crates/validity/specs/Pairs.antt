@@ -6,7 +6,7 @@ use Prim.Native.Nat.{ℕ, _+_, _-_, _*_, _<_}
 use lib.ListN.{getD}
 use lib.Dec.{eqb}
 use lib.Bits.{bitOr}
-use Rattle.quorum.specs.Tests.{allBelow}
+use Rattle.basics.specs.Tests.{allBelow}
 use Rattle.quorum.specs.Sets.{shares, within, full}
 use Rattle.quorum.specs.Configurations.{setAt, validTo}
 

@@ -1,75 +1,55 @@
 -- What commit and lay write, as lists of bytes.
 use mathlib.Core.Path.{_≡_, refl, sym, ap, _∙_}
-use mathlib.Core.Bool.{Bool, true, cond}
+use mathlib.Core.Bool.{Bool, false, not, cond, _||_}
 use mathlib.Core.List.{List, _∷_, _++_, append-assoc, append-nil}
-use Prim.Native.Nat.{ℕ, zero, suc, _+_, _-_, _*_, _≤_, _<_}
+use Prim.Native.Nat.{ℕ, zero, suc, _+_, _-_, _*_, _≤_}
 use native.Mathlib.Omega.{arith}
-use native.Mathlib.Nat.{add-zero, zero-add, suc-add, mul-le-mul}
+use native.Mathlib.Nat.{add-zero, zero-add, suc-add, mul-le-mul, not-suc-le-zero}
 use native.Mathlib.Numerals.{add-one}
-use lib.ListN.{length, take, drop, replicate, length-append, length-drop, take-append-drop}
+use lib.Dec.{eqb}
+use lib.ListN.{length, drop, replicate, length-append, take-append-drop}
 use lib.Seq.{take-all, drop-drop}
+use borrow.Author.Tests.{eqb-true, not-false}
 use Rattle.quorum.specs.Sets.{member}
-use Rattle.quorum.specs.Bytes.{part}
+use Rattle.basics.specs.Bytes.{part}
+use Rattle.basics.proofs.Tests.{or-false-left, or-false-right}
 use Rattle.quorum.proofs.Promise.{promise}
-use Rattle.layout.specs.Layout.{headSize, copySize, configSize, address, tableLength}
-use Rattle.layout.specs.Fields.{stations, items, roundOf}
-use Rattle.layout.specs.Soundness.{sound}
-use Rattle.layout.specs.Updates.{bytesOf, over, putData, putConfig, copyBytes}
-use Rattle.layout.specs.View.{State, view}
-use Rattle.layout.proofs.Parts.{part-left, part-length, length-over, part-inside, part-whole, part-before, part-after, length-bytes, over-append}
+use Rattle.layout.specs.Layout.{headSize, copiesAt, copySize, configSize, address, tableLength}
+use Rattle.layout.specs.Fields.{Copy, Round}
+use Rattle.table.specs.Search.{InTable}
+use Rattle.layout.specs.Updates.{bytesOf, over, putData, putConfig, copyBytes, repeated, laid, putCopies}
+use Rattle.layout.proofs.Parts.{part-left, part-length, length-over, part-inside, part-whole, length-bytes, over-again, over-append}
 use Rattle.layout.proofs.Writing.{over-all}
-use Rattle.layout.proofs.Fields.{address-head, address-fits, copy-length}
-use Rattle.layout.proofs.Soundness.{sound-facts}
-use Rattle.rules.specs.Figures.{Figures}
-use Rattle.rules.specs.After.{putCopies, repeated, laid}
+use Rattle.layout.proofs.Fields.{address-head, copy-length}
+use Rattle.layout.proofs.Stored.{repeated-length}
 
 -- ---- commit
 -- without puts every copy stays as it was
-pub no-puts : (t : List ℕ) (v : State) (f : Figures) (n : ℕ) → v .round .dataPuts ≡ 0 → v .round .configPuts ≡ 0 → putCopies t v f n ≡ t
+empty-puts : (t : List ℕ) (n : ℕ) (r : Round) (new : Copy) (k : ℕ) → r .dataPuts ≡ 0 → r .configPuts ≡ 0 → putCopies t n r new k ≡ t
 unfolding putCopies
-no-puts t v f zero d c = refl
-no-puts t v f (suc s) d c =
+empty-puts t n r new zero d c = refl
+empty-puts t n r new (suc s) d c =
     let no-data = ap (λ set. member set s) d ∙ promise .member-empty s in
     let no-config = ap (λ set. member set s) c ∙ promise .member-empty s in
-    rw (no-data, no-config) (no-puts t v f s d c)
+    rw (no-data, no-config) (empty-puts t n r new s d c)
 
--- where the copy of the round's item at a station starts
-abbrev pub roundAt : List ℕ → ℕ → ℕ
-roundAt t s = address (stations t) (roundOf t .item) s
+pub no-puts : (t : List ℕ) (n : ℕ) (r : Round) (new : Copy) (k : ℕ) → (not (eqb (r .dataPuts) 0) || not (eqb (r .configPuts) 0)) ≡ false
+    → putCopies t n r new k ≡ t
+no-puts t n r new k h =
+    empty-puts t n r new k (eqb-true _ _ (not-false _ (or-false-left _ _ h)))
+    (eqb-true _ _ (not-false _ (or-false-right (not (eqb (r .dataPuts) 0)) _ h)))
 
--- a sound table has room for its head and a copy, and for the copies of the round's item
-pub record Room (t : List ℕ) : Type 0 where
-  pub first : headSize + copySize ≤ length t
-  pub few : stations t ≤ 16
-  pub item : roundOf t .item < 32
-  pub fits : (s : ℕ) → s < stations t → roundAt t s + copySize ≤ length t
-
-pub room : (t : List ℕ) → sound t ≡ true → Room t
-unfolding view
-room t e =
-    let f = sound-facts t e in
-    record {
-      first = omega (arith, address-fits (stations t) (items t) 0 0 (f .state .someItem) (f .state .positive), address-head (stations t) 0 0, f .size);
-      few = f .state .small;
-      item = omega (arith, f .state .item, f .state .fewItems);
-      fits = λ s h. rw (f .size) (address-fits (stations t) (items t) (roundOf t .item) s (f .state .item) h);
-    }
-
-module _ {t : List ℕ} (r : Room t) (s : ℕ) {n at : ℕ} (e : n ≡ stations t) where
-  -- where the copy starts that the code computes, and that it is there
-  pub place : {i : ℕ} → i ≡ roundOf t .item → at ≡ address n i s → at ≡ roundAt t s
-  place q h = h ∙ rw (e, q)
-
-  pub copy-fits : at ≡ roundAt t s → s < n → at + copySize ≤ length t
-  copy-fits h l = rw h (r .fits s (rw (← e) l))
+-- bytes that have the copies of an item have a head
+pub head-fits : (t : List ℕ) (n item : ℕ) → InTable t n item → headSize ≤ length t
+head-fits t n item h = omega (arith, address-head n item n, h .2)
 
 -- the puts of one more station take effect
-pub put-turn : (t : List ℕ) (f : Figures) (s : ℕ) {u₀ u₁ u₂ target : List ℕ} {at : ℕ} {d c : Bool} → u₀ ≡ putCopies t (view t) f s
-    → at ≡ roundAt t s → d ≡ member (roundOf t .dataPuts) s → c ≡ member (roundOf t .configPuts) s
-    → target ≡ roundOf t .target → u₁ ≡ cond d (putData u₀ at (f .second) (f .first)) u₀ → u₂ ≡ cond c (putConfig u₁ at (f .third) target) u₁
-    → u₂ ≡ putCopies t (view t) f (s + 1)
-unfolding putCopies view
-put-turn t f s so-far place data? config? whole first second = second ∙ rw (add-one s, first, so-far, place, data?, config?, whole)
+pub put-turn : (t : List ℕ) (n : ℕ) (r : Round) (new : Copy) (s : ℕ) {u₀ u₁ u₂ : List ℕ} {at : ℕ} {d c : Bool} → u₀ ≡ putCopies t n r new s
+    → at ≡ address n (r .item) s → d ≡ member (r .dataPuts) s → c ≡ member (r .configPuts) s
+    → u₁ ≡ cond d (putData u₀ at (new .version) (new .value)) u₀ → u₂ ≡ cond c (putConfig u₁ at (new .generation) (new .config)) u₁
+    → u₂ ≡ putCopies t n r new (s + 1)
+unfolding putCopies
+put-turn t n r new s so-far place data? config? first second = second ∙ rw (add-one s, first, so-far, place, data?, config?)
 
 -- ---- lay
 -- both halves of a copy, one after the other, are the whole copy
@@ -89,22 +69,12 @@ over-own : (t : List ℕ) (a k : ℕ) → a + k ≤ length t → over t a (part 
 unfolding over
 over-own t a k h = rw (part-length t a k h, ← drop-drop k a t, take-append-drop k (drop a t)) (take-append-drop a t)
 
--- bytes written over at least as many
-over-again : (t : List ℕ) (a : ℕ) (l r : List ℕ) → length l ≤ length r → a + length r ≤ length t → over (over t a l) a r ≡ over t a r
-unfolding over
-over-again t a l r h fits = rw (before, after)
-  where
-    small : a + length l ≤ length t
-    small = omega arith
-
-    before : take a (over t a l) ≡ take a t
-    before = part-before t a l small 0 a (omega arith)
-
-    rest : (s : List ℕ) → length s ≡ length t → part s (a + length r) (length t) ≡ drop (a + length r) s
-    rest s e = take-all (length t) (drop (a + length r) s) (rw length-drop (omega arith))
-
-    after : drop (a + length r) (over t a l) ≡ drop (a + length r) t
-    after = sym (rest (over t a l) (length-over t a l small)) ∙ part-after t a l small (a + length r) (length t) (omega arith) ∙ rest t refl
+-- bytes written over the first of them
+over-first : (t : List ℕ) (a : ℕ) (l r : List ℕ) → a + length (l ++ r) ≤ length t → over (over t a l) a (l ++ r) ≡ over t a (l ++ r)
+over-first t a l r fits =
+    let q : a + length l ≤ length t = omega (arith, length-append l r) in
+    let long : a + length (l ++ r) ≤ length (over t a l) = rw (length-over t a l q) fits in
+    over-append (over t a l) a l r long ∙ rw (over-again t a l q) (sym (over-append t a l r fits))
 
 -- bytes that went through a block are what they were
 pub through-block : (t block : List ℕ) (a k : ℕ) → a + k ≤ length t → k ≤ length block → part (over block 0 (part t a k)) 0 k ≡ part t a k
@@ -116,11 +86,6 @@ unfolding repeated
 lay-start t a h = rw (append-nil (part t a 56)) (sym (over-own t a 56 h))
 
 module _ (copy : List ℕ) (size : length copy ≡ copySize) where
-  repeated-length : (k : ℕ) → length (repeated k copy) ≡ copySize * k
-  unfolding repeated
-  repeated-length zero = refl
-  repeated-length (suc k) = rw (length-append, repeated-length k, size) (omega arith)
-
   repeated-add : (j k : ℕ) → repeated (j + k) copy ≡ repeated j copy ++ repeated k copy
   unfolding repeated
   repeated-add zero k = rw (zero-add k)
@@ -129,7 +94,7 @@ module _ (copy : List ℕ) (size : length copy ≡ copySize) where
   repeated-part : (k s : ℕ) → s ≤ k → part (repeated k copy) 0 (copySize * s) ≡ repeated s copy
   repeated-part k s h =
       let e : k ≡ s + (k - s) = omega arith in
-      let long = repeated-length s in
+      let long = repeated-length s copy size in
       rw (e, repeated-add s (k - s))
       (part-left (repeated s copy) (repeated (k - s) copy) 0 (56 * s) (omega arith) ∙ take-all (56 * s) (repeated s copy) (omega arith))
 
@@ -137,8 +102,8 @@ module _ (copy : List ℕ) (size : length copy ≡ copySize) where
   pub lay-turn : (t u : List ℕ) (a k s : ℕ) → s ≤ k → a + copySize * (k + s) ≤ length t → u ≡ over t a (repeated k copy)
       → over u (a + copySize * k) (part u a (copySize * s)) ≡ over t a (repeated (k + s) copy)
   lay-turn t u a k s h fits so-far =
-      let long = repeated-length k in
-      let more = repeated-length s in
+      let long = repeated-length k copy size in
+      let more = repeated-length s copy size in
       let f : a + length (repeated k copy) ≤ length t = rw long (omega arith) in
       let e = rw (add-zero a) at (part-inside t a (repeated k copy) f 0 (56 * s) (rw long (omega arith))) in
       rw (so-far, e, repeated-part k s h, ← long, repeated-add k s)
@@ -148,17 +113,25 @@ module _ (copy : List ℕ) (size : length copy ≡ copySize) where
 pub some-copies : {n m : ℕ} → 1 ≤ n → n ≤ 16 → 1 ≤ m → m ≤ 32 → (1 ≤ n * m) × (n * m ≤ 512)
 some-copies p q r s = (mul-le-mul p r, mul-le-mul q s)
 
+-- the first copy and all copies, one after the other
+all-copies : (t : List ℕ) (k : ℕ) (copy : List ℕ) → 1 ≤ k → length copy ≡ copySize → copiesAt + copySize * k ≤ length t
+    → over (over t copiesAt copy) copiesAt (repeated k copy) ≡ over t copiesAt (repeated k copy)
+unfolding repeated
+all-copies t zero copy some size fits = absurd (not-suc-le-zero some)
+all-copies t (suc k) copy some size fits =
+    over-first t copiesAt copy (repeated k copy) (rw (length-append, repeated-length k copy size, size) (omega arith))
+
 -- the head, the first copy and all copies, one after the other, are the whole table
 pub lay-all : (t : List ℕ) (n m value : ℕ) (config : List ℕ) → 1 ≤ n * m → length t ≡ tableLength n m → length config ≡ configSize
-    → {h u : List ℕ} → h ≡ over t 0 (n ∷ m ∷ replicate 54 0) → u ≡ over h headSize (copyBytes 0 value 0 config)
-    → over u headSize (repeated (n * m) (part u headSize copySize)) ≡ laid n m value config
+    → {h u : List ℕ} → h ≡ over t 0 (n ∷ m ∷ replicate 54 0) → u ≡ over h copiesAt (copyBytes 0 value 0 config)
+    → over u copiesAt (repeated (n * m) (part u copiesAt copySize)) ≡ laid n m value config
 unfolding tableLength
 lay-all t n m value config some size long {h} {u} first second =
     let head = n ∷ m ∷ replicate 54 0 in
     let copy = copyBytes 0 value 0 config in
     let copies = repeated (n * m) copy in
     let e = copy-length 0 value 0 config long in
-    let f = repeated-length copy e (n * m) in
+    let f = repeated-length (n * m) copy e in
     let same : length h ≡ length t = rw first (length-over t 0 head (omega arith)) in
-    rw (second, part-whole h 56 copy (omega arith) 56 e, over-again h 56 copy copies (omega arith) (omega arith), first)
+    rw (second, part-whole h 56 copy (omega arith) 56 e, all-copies h (n * m) copy some e (omega arith), first)
     (sym (over-append t 0 head copies (rw length-append (omega arith))) ∙ over-all t (head ++ copies) (rw length-append (omega arith)))

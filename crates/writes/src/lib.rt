@@ -1,33 +1,30 @@
 // What commit and lay write.
 ghost use mathlib.Core.Path.{_≡_};
-ghost use mathlib.Core.Bool.{true, cond};
+ghost use mathlib.Core.Bool.{cond};
 ghost use Prim.Native.Nat.{_+_, _*_, _≤_, min};
 ghost use lib.ListN.{length};
-ghost use Rattle.quorum.specs.Bytes.{part};
-ghost use Rattle.layout.specs.Layout.{headSize, copySize, configSize, tableLength};
-ghost use Rattle.layout.specs.Fields.{stations};
-ghost use Rattle.layout.specs.Soundness.{sound};
-ghost use Rattle.layout.specs.Updates.{putData, putConfig, over, copyBytes};
-ghost use Rattle.layout.specs.View.{view};
-ghost use Rattle.rules.specs.After.{putCopies, closed, repeated, laid};
-use layout::copy::COPY_SIZE;
-use layout::copy::Generation;
-use layout::copy::Version;
-use layout::copy::address;
-use layout::copy::put_config;
-use layout::copy::put_data;
-use layout::head::HEAD_SIZE;
-use layout::head::OFF_AT;
-use layout::head::STATIONS_AT;
-use layout::head::TARGET_AT;
-use layout::head::config_puts;
-use layout::head::data_puts;
-use layout::head::item;
-use layout::head::set_round;
-use layout::head::stations;
-use layout::number::CONFIG_SIZE;
-use layout::number::config_bytes_at;
-use layout::number::put_pair;
+ghost use Rattle.basics.specs.Bytes.{part};
+ghost use Rattle.layout.specs.Layout.{copiesAt, copySize, configSize, tableLength};
+ghost use Rattle.layout.specs.Fields.{newCopy};
+ghost use Rattle.table.specs.Search.{InTable};
+ghost use Rattle.layout.specs.Updates.{putData, putConfig, over, copyBytes, repeated, laid, putCopies, closed};
+ghost use Rattle.rounds.specs.Round.{asRound};
+use rounds::round::Round;
+use table::copy::COPIES_AT;
+use table::copy::COPY_SIZE;
+use table::copy::Generation;
+use table::copy::Version;
+use table::copy::address;
+use table::copy::put_config;
+use table::copy::put_data;
+use table::head::HEAD_SIZE;
+use table::head::NO_ROUND;
+use table::head::OFF_AT;
+use table::head::STATIONS_AT;
+use table::head::set_round;
+use table::number::CONFIG_SIZE;
+use table::number::config_bytes_at;
+use table::number::put_pair;
 
 // Version and value into the copy at a place, if its station has a data put.
 fn put_data_if(t: &mut [u8], at: usize, put: bool, version: Version, value: u64)
@@ -55,41 +52,49 @@ fn put_config_if(
     }
 }
 
-// Every put of the open round takes effect, station by station.
-fn put_each(t: &mut [u8], value: u64, version: Version, generation: Generation)
-    requires { ⌜ sound (now t) ≡ true ⌝ }
-    ensures { λ _. ⌜ now (t .exit) ≡ putCopies (now (t .entry)) (view (now (t .entry))) (record { first = value; second = version .0; third = generation .0 }) (stations (now (t .entry))) ⌝ }
+// Every put of the round takes effect, station by station.
+fn put_each(
+    t: &mut [u8],
+    n: usize,
+    round: Round,
+    value: u64,
+    version: Version,
+    generation: Generation,
+)
+    requires { ⌜ InTable (now t) n (round .item) ⌝ }
+    ensures { λ _. ⌜ now (t .exit) ≡ putCopies (now (t .entry)) n (asRound round) (newCopy (version .0) value (generation .0) (round .target)) n ⌝ }
 {
-    let n = stations(t);
-    let i = item(t);
-    let data = data_puts(t);
-    let config = config_puts(t);
-    let target = config_bytes_at(t, TARGET_AT);
+    let i = round.item;
+    let target = round.target;
     for s in 0..n {
         let at = address(n, i, s);
-        put_data_if(t, at, quorum::is_member(data, s), version, value);
-        put_config_if(t, at, quorum::is_member(config, s), generation, target);
+        put_data_if(t, at, quorum::is_member(round.data_puts, s), version, value);
+        put_config_if(
+            t,
+            at,
+            quorum::is_member(round.config_puts, s),
+            generation,
+            target,
+        );
     }
 }
 
-// The same; a round without puts, as every read is, leaves the copies alone.
-fn put_copies(t: &mut [u8], value: u64, version: Version, generation: Generation)
-    requires { ⌜ sound (now t) ≡ true ⌝ }
-    ensures { λ _. ⌜ now (t .exit) ≡ putCopies (now (t .entry)) (view (now (t .entry))) (record { first = value; second = version .0; third = generation .0 }) (stations (now (t .entry))) ⌝ }
+// The same; a round without puts, as every read is, leaves the copies alone. Then the round closes.
+pub fn finish(
+    t: &mut [u8],
+    n: usize,
+    round: Round,
+    value: u64,
+    version: Version,
+    generation: Generation,
+)
+    requires { ⌜ InTable (now t) n (round .item) ⌝ }
+    ensures { λ _. ⌜ now (t .exit) ≡ closed (putCopies (now (t .entry)) n (asRound round) (newCopy (version .0) value (generation .0) (round .target)) n) ⌝ }
 {
-    if (data_puts(t) == 0) & (config_puts(t) == 0) {
-        return;
+    if (round.data_puts != 0) | (round.config_puts != 0) {
+        put_each(t, n, round, value, version, generation);
     }
-    put_each(t, value, version, generation)
-}
-
-// The same, and the round closes.
-pub fn finish(t: &mut [u8], value: u64, version: Version, generation: Generation)
-    requires { ⌜ sound (now t) ≡ true ⌝ }
-    ensures { λ _. ⌜ now (t .exit) ≡ closed (putCopies (now (t .entry)) (view (now (t .entry))) (record { first = value; second = version .0; third = generation .0 }) (stations (now (t .entry)))) ⌝ }
-{
-    put_copies(t, value, version, generation);
-    set_round(t, 0, 0, 0, [0u8; CONFIG_SIZE])
+    set_round(t, NO_ROUND, 0, 0, [0u8; CONFIG_SIZE])
 }
 
 // The most bytes that are copied at once: half of the copies of the largest table.
@@ -108,11 +113,11 @@ fn put_part(to: &mut [u8], at: usize, from: &[u8], start: usize, count: usize)
 // Writes the first bytes behind the head once more, as many as the count says. The compiler leaves the block out and makes
 // this one move of memory.
 fn copy_again(t: &mut [u8], to: usize, count: usize)
-    requires { ⌜ (count ≤ 256 * copySize) × (headSize + count ≤ length (now t)) × (to + count ≤ length (now t)) ⌝ }
-    ensures { λ _. ⌜ now (t .exit) ≡ over (now (t .entry)) to (part (now (t .entry)) headSize count) ⌝ }
+    requires { ⌜ (count ≤ 256 * copySize) × (copiesAt + count ≤ length (now t)) × (to + count ≤ length (now t)) ⌝ }
+    ensures { λ _. ⌜ now (t .exit) ≡ over (now (t .entry)) to (part (now (t .entry)) copiesAt count) ⌝ }
 {
     let mut block = [0u8; BLOCK_SIZE];
-    put_part(&mut block, 0, t, HEAD_SIZE, count);
+    put_part(&mut block, 0, t, COPIES_AT, count);
     put_part(t, to, &block, 0, count)
 }
 
@@ -125,22 +130,22 @@ fn least(a: usize, b: usize) -> usize
 
 // Writes the first copy.
 fn lay_first(t: &mut [u8], value: u64, config: &[u8])
-    requires { ⌜ (headSize + copySize ≤ length (now t)) × (length (now config) ≡ configSize) ⌝ }
-    ensures { λ _. ⌜ now (t .exit) ≡ over (now (t .entry)) headSize (copyBytes 0 value 0 (now (config .entry))) ⌝ }
+    requires { ⌜ (copiesAt + copySize ≤ length (now t)) × (length (now config) ≡ configSize) ⌝ }
+    ensures { λ _. ⌜ now (t .exit) ≡ over (now (t .entry)) copiesAt (copyBytes 0 value 0 (now (config .entry))) ⌝ }
 {
-    put_data(t, HEAD_SIZE, Version(0), value);
-    put_config(t, HEAD_SIZE, Generation(0), config_bytes_at(config, 0))
+    put_data(t, COPIES_AT, Version(0), value);
+    put_config(t, COPIES_AT, Generation(0), config_bytes_at(config, 0))
 }
 
 // Makes all copies like the first. Each turn writes the copies that are there once more behind them, and so doubles them.
 fn lay_rest(t: &mut [u8], copies: usize)
-    requires { ⌜ (1 ≤ copies) × (copies ≤ 512) × (headSize + copySize * copies ≤ length (now t)) ⌝ }
-    ensures { λ _. ⌜ now (t .exit) ≡ over (now (t .entry)) headSize (repeated copies (part (now (t .entry)) headSize copySize)) ⌝ }
+    requires { ⌜ (1 ≤ copies) × (copies ≤ 512) × (copiesAt + copySize * copies ≤ length (now t)) ⌝ }
+    ensures { λ _. ⌜ now (t .exit) ≡ over (now (t .entry)) copiesAt (repeated copies (part (now (t .entry)) copiesAt copySize)) ⌝ }
 {
     let mut k: usize = 1;
     while k < copies {
         let more = least(k, copies - k);
-        copy_again(t, HEAD_SIZE + COPY_SIZE * k, COPY_SIZE * more);
+        copy_again(t, COPIES_AT + COPY_SIZE * k, COPY_SIZE * more);
         k += more;
     }
 }

@@ -1,28 +1,32 @@
-use Rattle.ospreyscreen.proofs.Replies.{commit-refused, commit-sound, commit-finished}
+use mathlib.Core.Path.{refl}
+use Rattle.rules.specs.Calls.{commit}
+use Rattle.ospreyscreen.proofs.Soundness.{unsound, is-sound}
 use borrow.Author.Needs.{needs}
 use Rattle.ospreyscreen.proofs.ospreyscreen_commit.Statement.{statement}
 use Rattle.ospreyscreen.proofs.ospreyscreen_commit.Tie as tie
 
-commit-reply-requires : tie.Need-commit-reply-requires
-commit-reply-requires c κs = search needs
+is-sound-requires : tie.Need-is-sound-requires
+is-sound-requires c κs = search needs
+
+plain-requires : tie.Need-plain-requires
+plain-requires c κs = search needs
 
 same-length : tie.Need-same-length
 same-length c = search needs
 
 returns : tie.Need-returns
-returns c = commit-refused _ (c .before .before .commit-reply .ensures) (c .if1 .taken)
+returns c = unsound _ (c .before .before .is-sound .ensures) commit refl (c .before .if1 .taken) (c .plain .ensures)
 
-finish-requires : tie.Need-finish-requires
-finish-requires c κs = commit-sound _ (c .before .before .before .commit-reply .ensures) (c .before .if1 .left)
+commit-on-requires : tie.Need-commit-on-requires
+commit-on-requires c κs = is-sound _ (c .before .before .is-sound .ensures) (c .before .if1 .left)
 
 same-length-2 : tie.Need-same-length-2
 same-length-2 c = search needs
 
 returns-2 : tie.Need-returns-2
-returns-2 c =
-    commit-finished _ (c .before .before .before .before .before .before .commit-reply .ensures) (c .before .before .before .before .if1 .left) (c .before .before .finish .ensures)
+returns-2 c = search needs
 
 pub ospreyscreen-commit-spec : {M : Type 1} → statement M
 ospreyscreen-commit-spec =
     tie.close
-    (tie.spec commit-reply-requires same-length returns finish-requires same-length-2 returns-2)
+    (tie.spec is-sound-requires plain-requires same-length returns commit-on-requires same-length-2 returns-2)

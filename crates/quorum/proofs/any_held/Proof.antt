@@ -1,14 +1,15 @@
 use borrow.Author.Needs.{needs}
 use Prim.Native.Nat.{_+_, _-_, _≤_}
 use mathlib.Core.Path.{_≡_, sym}
-use Rattle.quorum.specs.Tests.{anyBelow}
-use Rattle.quorum.specs.Inner.{placeHeld, anyHeld}
-use Rattle.quorum.proofs.Tests.{any-start, any-turn, any-end}
+use Rattle.basics.specs.Tests.{anyBelow}
+use Rattle.quorum.specs.Configurations.{setAt, holdsPlace}
+use Rattle.quorum.specs.Inner.{anyHeld}
+use Rattle.basics.proofs.Tests.{any-start, any-turn, any-end}
 use Rattle.quorum.proofs.any_held.Statement.{statement}
 use Rattle.quorum.proofs.any_held.Tie as tie
 
 abbrev Inv-loop : tie.InvT-loop
-Inv-loop config side set any₀ k₀ any k = (k ≤ 8) × (any ≡ anyBelow (λ j. placeHeld config (side + j) set) k)
+Inv-loop config side set any₀ k₀ any k = (k ≤ 8) × (any ≡ anyBelow (λ j. holdsPlace (setAt config) set (side + j)) k)
 
 abbrev μ-loop : tie.MeasureT-loop
 μ-loop config side set any₀ k₀ any k = 8 - k

@@ -1,15 +1,15 @@
 use borrow.Author.Needs.{needs}
 use Prim.Native.Nat.{_+_, _-_, _≤_}
 use mathlib.Core.Path.{_≡_, sym}
-use Rattle.quorum.specs.Configurations.{firstPlace}
-use Rattle.quorum.specs.Inner.{placeHeld, firstHeld}
+use Rattle.quorum.specs.Configurations.{setAt, holdsPlace, firstPlace}
+use Rattle.quorum.specs.Inner.{firstHeld}
 use Rattle.quorum.specs.declared.Place.the-variants.{Nowhere}
 use Rattle.quorum.proofs.Validity.{first-start, first-on, first-hit, first-end}
 use Rattle.quorum.proofs.first_held.Statement.{statement}
 use Rattle.quorum.proofs.first_held.Tie as tie
 
 abbrev Inv-loop : tie.InvT-loop
-Inv-loop config side set k₀ k = (k ≤ 8) × (firstPlace (λ j. placeHeld config (side + j) set) k ≡ Nowhere)
+Inv-loop config side set k₀ k = (k ≤ 8) × (firstPlace (λ j. holdsPlace (setAt config) set (side + j)) k ≡ Nowhere)
 
 abbrev μ-loop : tie.MeasureT-loop
 μ-loop config side set k₀ k = 8 - k

@@ -1,5 +1,5 @@
 use Rattle.quorum.specs.Sets.{used, holds}
-use Rattle.quorum.specs.Inner.{placeHeld}
+use Rattle.quorum.specs.Configurations.{holdsPlace}
 use borrow.Author.Needs.{needs}
 use Rattle.quorum.proofs.place_held.Statement.{statement}
 use Rattle.quorum.proofs.place_held.Tie as tie
@@ -8,7 +8,7 @@ load-set-requires : tie.Need-load-set-requires
 load-set-requires c κs = search needs
 
 returns : tie.Need-returns
-unfolding placeHeld used holds
+unfolding holdsPlace used holds
 returns c = rw (c .load-set .ensures)
 
 pub place-held-spec : {M : Type 1} → statement M

@@ -13,28 +13,28 @@ cast-bytes c = search needs
 array-write-bytes-2 : tie.Need-array-write-bytes-2
 array-write-bytes-2 c = search needs
 
-slice-aggregate-put-number : tie.Need-slice-aggregate-put-number
-slice-aggregate-put-number c = search needs
+slice-aggregate-put-u64 : tie.Need-slice-aggregate-put-u64
+slice-aggregate-put-u64 c = search needs
 
-put-number-requires : tie.Need-put-number-requires
-put-number-requires c κs = search needs
+put-u64-requires : tie.Need-put-u64-requires
+put-u64-requires c κs = search needs
 
-slice-aggregate-put-number-2 : tie.Need-slice-aggregate-put-number-2
-slice-aggregate-put-number-2 c = search needs
+slice-aggregate-put-u64-2 : tie.Need-slice-aggregate-put-u64-2
+slice-aggregate-put-u64-2 c = search needs
 
-put-number-requires-2 : tie.Need-put-number-requires-2
-put-number-requires-2 c κs = search needs
+put-u64-requires-2 : tie.Need-put-u64-requires-2
+put-u64-requires-2 c κs = search needs
 
-slice-aggregate-put-number-3 : tie.Need-slice-aggregate-put-number-3
-slice-aggregate-put-number-3 c = search needs
+slice-aggregate-put-u64-3 : tie.Need-slice-aggregate-put-u64-3
+slice-aggregate-put-u64-3 c = search needs
 
-put-number-requires-3 : tie.Need-put-number-requires-3
-put-number-requires-3 c κs = search needs
+put-u64-requires-3 : tie.Need-put-u64-requires-3
+put-u64-requires-3 c κs = search needs
 
 returns : tie.Need-returns
 returns c =
-    c .before .put-number3 .ensures ∙ rw
-    (c .before .before .before .before .put-number2 .ensures, c .before .before .before .before .before .before .before .put-number .ensures)
+    c .before .put-u643 .ensures ∙ rw
+    (c .before .before .before .before .put-u642 .ensures, c .before .before .before .before .before .before .before .put-u64 .ensures)
     (reply-bytes-written _ _)
 
 pub reply-bytes-spec : {M : Type 1} → statement M
@@ -44,10 +44,10 @@ reply-bytes-spec =
     array-write-bytes
     cast-bytes
     array-write-bytes-2
-    slice-aggregate-put-number
-    put-number-requires
-    slice-aggregate-put-number-2
-    put-number-requires-2
-    slice-aggregate-put-number-3
-    put-number-requires-3
+    slice-aggregate-put-u64
+    put-u64-requires
+    slice-aggregate-put-u64-2
+    put-u64-requires-2
+    slice-aggregate-put-u64-3
+    put-u64-requires-3
     returns)

@@ -1,6 +1,6 @@
 use Prim.Native.Nat.{_-_, _+_, _*_, _≤_, _<_}
 use lib.ListN.{length, length-set}
-use Rattle.replies.specs.ReplyLine.{replyLine}
+use Rattle.replies.specs.ReplyLine.{replySize, lineEnd, replyLine}
 use Rattle.replies.proofs.ReplyLine.{reply-bytes-length}
 use borrow.Author.Needs.{needs}
 use native.Mathlib.Omega.{arith}
@@ -10,10 +10,10 @@ use Rattle.replies.proofs.write_reply.Statement.{statement}
 use Rattle.replies.proofs.write_reply.Tie as tie
 
 abbrev Inv-loop : tie.InvT-loop
-Inv-loop call out₀ at bytes k₀ out k = (k ≤ 26) × (length bytes ≡ 26) × Shown out₀ at bytes k out
+Inv-loop call out₀ at bytes k₀ out k = (k ≤ replySize) × (length bytes ≡ replySize) × Shown out₀ at bytes k out
 
 abbrev μ-loop : tie.MeasureT-loop
-μ-loop call out₀ at bytes k₀ out k = 26 - k
+μ-loop call out₀ at bytes k₀ out k = replySize - k
 
 reply-bytes-requires : tie.Need-reply-bytes-requires Inv-loop μ-loop
 reply-bytes-requires c κs = search needs
@@ -74,6 +74,9 @@ loop-again c =
           (show-turn (a .out .now) (a .at) bytes room (l .k) (l .out) some (l .inv .2)),
     )
 
+mul-out-3 : tie.Need-mul-out-3 Inv-loop μ-loop
+mul-out-3 c = search needs
+
 add-out-4 : tie.Need-add-out-4 Inv-loop μ-loop
 add-out-4 c = search needs
 
@@ -92,7 +95,7 @@ returns c =
     let room : a .at + 2 * length bytes ≤ length (a .out .now) = omega arith in
     let more : a .at + 2 * length bytes < length (a .out .now) = omega arith in
     let all : length bytes ≤ l .k = omega arith in
-    rw (l .inv .1) at (show-end (a .out .now) (a .at) bytes room (l .k) 10 (l .out) all more (l .inv .2)) ∙ rw
+    rw (l .inv .1) at (show-end (a .out .now) (a .at) bytes room (l .k) lineEnd (l .out) all more (l .inv .2)) ∙ rw
     (c .before .before .reply-bytes .ensures)
 
 pub write-reply-spec : {M : Type 1} → statement M
@@ -116,6 +119,7 @@ write-reply-spec =
     add-k
     loop-less
     loop-again
+    mul-out-3
     add-out-4
     slice-write-out-3
     same-length

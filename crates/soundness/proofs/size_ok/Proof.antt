@@ -1,8 +1,10 @@
+use mathlib.Core.Path.{sym}
+use Rattle.basics.proofs.Tests.{fails}
 use Prim.Native.Nat.{_*_, _≤_}
 use lib.ListN.{length, take, drop}
 use lib.Dec.{eqb}
 use Rattle.layout.specs.Fields.{stations, items}
-use Rattle.soundness.proofs.Scan.{fails, joined-all, size-facts, bytes-product}
+use Rattle.soundness.proofs.Scan.{joined-all, size-facts, bytes-product}
 use native.Mathlib.Omega.{arith}
 use Rattle.layout.specs.Layout.{tableLength}
 use Rattle.layout.specs.Soundness.{soundness}
@@ -19,7 +21,7 @@ product c =
 
 returns : tie.Need-returns
 unfolding tableLength
-returns c = fails (λ e. let h = size-facts (c .before .before .args .t .now) e .long in omega arith)
+returns c = sym (fails _ (λ e. let h = size-facts (c .before .before .args .t .now) e .long in omega arith))
 
 stations-requires : tie.Need-stations-requires
 stations-requires c κs = search needs

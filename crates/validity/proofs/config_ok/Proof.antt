@@ -2,8 +2,8 @@ use mathlib.Core.Path.{_≡_, sym, _∙_}
 use mathlib.Core.Bool.{true, _&&_}
 use borrow.Author.Tests.{not-true, not-false}
 use Rattle.validity.specs.Pairs.{pairsOk}
-use Rattle.quorum.proofs.Tests.{clash}
-use Rattle.quorum.proofs.Validity.{invalid}
+use Rattle.basics.proofs.Tests.{clash}
+use Rattle.validity.proofs.Pairs.{invalid}
 use Rattle.validity.proofs.Pairs.{inside, valid-is-paired, valid-is-inside, paired-is-valid}
 use borrow.Author.Needs.{needs}
 use Rattle.validity.proofs.config_ok.Statement.{statement}

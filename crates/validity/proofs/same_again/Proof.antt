@@ -3,9 +3,9 @@ use Prim.Native.Nat.{_+_, _-_, _≤_}
 use mathlib.Core.Path.{_≡_, refl, sym}
 use lib.ListN.{getD}
 use lib.Dec.{eqb}
-use Rattle.quorum.specs.Tests.{allBelow}
+use Rattle.basics.specs.Tests.{allBelow}
 use Rattle.validity.specs.Pairs.{sameAgain}
-use Rattle.quorum.proofs.Tests.{all-start, all-turn, all-end}
+use Rattle.basics.proofs.Tests.{all-start, all-turn, all-end}
 use Rattle.validity.proofs.same_again.Statement.{statement}
 use Rattle.validity.proofs.same_again.Tie as tie
 

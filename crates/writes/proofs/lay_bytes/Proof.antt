@@ -21,7 +21,8 @@ sub-put-pair : tie.Need-sub-put-pair
 sub-put-pair c = search needs
 
 put-pair-requires : tie.Need-put-pair-requires
-put-pair-requires c κs = rw (c .before .before .before .pre .4) (table-head _ _)
+put-pair-requires c κs =
+    let s = c .before .before .before in omega (arith, s .pre .4, table-head (s .args .n) (s .args .m))
 
 lay-first-requires : tie.Need-lay-first-requires
 unfolding tableLength

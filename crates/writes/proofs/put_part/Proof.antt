@@ -1,6 +1,6 @@
 use Rattle.layout.proofs.Writing.{Writing, writing-start, writing-turn, writing-end, part-next, list-done}
 use Rattle.layout.proofs.Parts.{part-length}
-use Rattle.quorum.specs.Bytes.{part}
+use Rattle.basics.specs.Bytes.{part}
 use native.Mathlib.Omega.{arith}
 use Prim.Native.Nat.{_-_, _≤_}
 use mathlib.Core.Path.{refl}

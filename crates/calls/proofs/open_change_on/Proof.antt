@@ -1,0 +1,79 @@
+use mathlib.Core.Path.{refl, _∙_}
+use native.Mathlib.Omega.{arith}
+use lib.Seq.{take-all}
+use Rattle.quorum.proofs.Promise.{promise}
+use Rattle.layout.proofs.Soundness.{sound-head}
+use Rattle.rules.specs.Calls.{openChange}
+use Rattle.rules.specs.Figures.{figuresOf}
+use Rattle.rules.specs.After.{done}
+use Rattle.rules.specs.Needs.{needs as needed}
+use Rattle.calls.proofs.Replies.{refused, plain-finished, shown, item-byte}
+use borrow.Author.Needs.{needs}
+use Rattle.calls.proofs.open_change_on.Statement.{statement}
+use Rattle.calls.proofs.open_change_on.Tie as tie
+
+open-change-number-requires : tie.Need-open-change-number-requires
+open-change-number-requires c κs = search needs
+
+plain-requires : tie.Need-plain-requires
+plain-requires c κs = search needs
+
+same-length : tie.Need-same-length
+same-length c = search needs
+
+returns : tie.Need-returns
+returns c =
+    let asked = c .before .before in
+    let s = asked .before .before .before .before .pre in
+    refused _ s (openChange _ _) refl (asked .open-change-number .ensures) (c .before .if1 .taken) (c .plain .ensures)
+
+cast-set-round : tie.Need-cast-set-round
+unfolding needed
+cast-set-round c =
+    let asked = c .before .before in
+    let s = asked .before .before .before .before .pre in
+    let a = shown _ s (openChange _ _) refl (asked .open-change-number .ensures) (c .before .if1 .left) in record { fits = item-byte _ s (a .1 .0) }
+
+config-bytes-at-requires : tie.Need-config-bytes-at-requires
+unfolding needed
+config-bytes-at-requires c κs =
+    let asked = c .before .before in
+    let s = asked .before .before .before .before .pre in
+    let l = shown _ s (openChange _ _) refl (asked .open-change-number .ensures) (c .before .if1 .left) .1 .1 .0 .long in omega arith
+
+set-round-requires : tie.Need-set-round-requires
+set-round-requires c κs = sound-head _ (c .before .before .before .before .before .before .before .pre)
+
+plain-requires-2 : tie.Need-plain-requires-2
+plain-requires-2 c κs = search needs
+
+same-length-2 : tie.Need-same-length-2
+same-length-2 c = search needs
+
+returns-2 : tie.Need-returns-2
+unfolding done figuresOf needed
+returns-2 c =
+    let written = c .before .before .before in
+    let copied = written .before in
+    let allowed = copied .before .before in
+    let asked = allowed .before in
+    let start = asked .before .before .before .before in
+    let e = asked .open-change-number .ensures in
+    let l = shown _ (start .pre) (openChange _ _) refl e (allowed .if1 .left) .1 .1 .0 .long in
+    plain-finished _ (start .pre) (openChange _ _) refl e refl (allowed .if1 .left) (c .plain2 .ensures)
+    (written .set-round .ensures ∙ rw (copied .config-bytes-at .ensures, take-all 32 (start .args .target .now) (omega arith)))
+
+pub open-change-on-spec : {M : Type 1} → statement M
+open-change-on-spec =
+    tie.close
+    (tie.spec
+    open-change-number-requires
+    plain-requires
+    same-length
+    returns
+    cast-set-round
+    config-bytes-at-requires
+    set-round-requires
+    plain-requires-2
+    same-length-2
+    returns-2)

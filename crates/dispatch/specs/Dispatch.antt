@@ -1,0 +1,58 @@
+-- Calls by code (document 01, "Frames"): the call that a code and its argument bytes stand for, its reply and the table after it.
+use mathlib.Core.Bool.{cond}
+use mathlib.Core.List.{List, [], _∷_}
+use mathlib.Core.Option.{Option, none, some}
+use Prim.Native.Nat.{ℕ, _-_}
+use lib.Dec.{ltb}
+use lib.ListN.{length, getD}
+use Rattle.basics.specs.Bytes.{part, number}
+use Rattle.layout.specs.Layout.{configSize}
+use Rattle.rules.specs.Calls.{Call, lay, openRead, openWrite, openChange, poll, put, commit, abandon, link, reach}
+use Rattle.rules.specs.Reply.{reply, after}
+use Rattle.rules.specs.declared.Reply.{Reply}
+
+-- "Lengths in bytes by code, kept as a table: 43, 2, 10, 34, 2, 3, 1, 1, 3, 2." Code 00 has no frame.
+abbrev pub lengths : List ℕ
+lengths = 0 ∷ 43 ∷ 2 ∷ 10 ∷ 34 ∷ 2 ∷ 3 ∷ 1 ∷ 1 ∷ 3 ∷ 2 ∷ []
+
+-- the longest of them
+abbrev pub longest : ℕ
+longest = 43
+
+-- the length of a code's frames; 0 if it has none
+unfoldable pub frameLength : ℕ → ℕ
+frameLength code = getD lengths code 0
+
+-- "Byte 0 is the call: 01 lay, 02 open read, 03 open write, 04 open change, 05 poll, 06 put, 07 commit, 08 abandon, 09 link,
+-- 0A reach; then the arguments in the order above, one byte each, values 8 bytes, configurations 32." By code, from 00 on, of the bytes
+-- behind byte 0.
+unfoldable pub callsOf : List ℕ → List (Option Call)
+callsOf arguments =
+    none
+    ∷ some (lay (number arguments 0 1) (number arguments 1 1) (number arguments 2 8) (part arguments 10 configSize))
+    ∷ some (openRead (number arguments 0 1))
+    ∷ some (openWrite (number arguments 0 1) (number arguments 1 8))
+    ∷ some (openChange (number arguments 0 1) (part arguments 1 configSize))
+    ∷ some (poll (number arguments 0 1))
+    ∷ some (put (number arguments 0 1) (number arguments 1 1))
+    ∷ some commit
+    ∷ some abandon
+    ∷ some (link (number arguments 0 1) (number arguments 1 1))
+    ∷ some (reach (number arguments 0 1))
+    ∷ []
+
+-- the call of a code and argument bytes; a code that has none, or too few bytes, stand for no call. Bytes behind the arguments are not read.
+unfoldable pub callAt : ℕ → List ℕ → Option Call
+callAt code arguments = cond (ltb (length arguments) (frameLength code - 1)) none (getD (callsOf arguments) code none)
+
+-- ---- what a call replies and leaves; "Any other line, an empty one too, gets 12"
+abbrev pub falseFrame : Reply
+falseFrame = record { number = 12; first = 0; second = 0; third = 0 }
+
+abbrev pub replyOr : List ℕ → Option Call → Reply
+replyOr t none = falseFrame
+replyOr t (some c) = reply t c
+
+abbrev pub afterOr : List ℕ → Option Call → List ℕ
+afterOr t none = t
+afterOr t (some c) = after t c

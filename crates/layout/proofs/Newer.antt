@@ -1,0 +1,161 @@
+-- The newest copy by a key, by its record `IsNewest`: the station that `newest` gives is the one that has the greatest key of the stations in
+-- the set, and of several the lowest.
+use mathlib.Core.Path.{_≡_, refl, ap}
+use mathlib.Core.Bool.{Bool, true, false, cond}
+use mathlib.Core.List.{[]}
+use mathlib.Core.Option.{Option, none, some}
+use Prim.Native.Nat.{ℕ, zero, suc, _≤_, _<_}
+use native.Mathlib.Nat.{not-suc-le-zero, le-antisymm}
+use native.Mathlib.Omega.{arith}
+use lib.Dec.{ltb}
+use borrow.Author.Tests.{ltb-true, ltb-false}
+use Rattle.quorum.specs.Sets.{member}
+use Rattle.quorum.specs.Configurations.{holdsRead}
+use Rattle.basics.proofs.Tests.{clash, by-cases, below-suc}
+use Rattle.quorum.proofs.Promise.{promise}
+use Rattle.layout.specs.Fields.{Copy}
+use Rattle.layout.specs.Newest.{newest, newer, IsNewest, copyOr, byVersion, byGeneration, hears}
+
+-- what `newest` gives
+abbrev pub Gives : (ℕ → ℕ) → ℕ → ℕ → Option ℕ → Type 0
+Gives key set n none = (s : ℕ) → s < n → member set s ≡ false
+Gives key set n (some b) = IsNewest key set n b
+
+module _ (key : ℕ → ℕ) (set : ℕ) where
+  -- one more station: it is the newest if its key is greater, or if it is the first in the set
+  later : (k : ℕ) → member set k ≡ true → ((s : ℕ) → s < k → member set s ≡ true → key s < key k) → IsNewest key set (suc k) k
+  later k m less =
+      record {
+        station = omega arith;
+        isPolled = m;
+        greatest = below-suc (λ (s : ℕ). member set s ≡ true → key s ≤ key k) k (λ s h p. let q = less s h p in omega arith) (λ p. omega arith);
+        lowest = less;
+      }
+
+  -- and leaves the newest as it was if not
+  kept : (k b : ℕ) → IsNewest key set k b → (member set k ≡ true → key k ≤ key b) → IsNewest key set (suc k) b
+  kept k b h last =
+      record {
+        station = let q = h .station in omega arith;
+        isPolled = h .isPolled;
+        greatest = below-suc (λ (s : ℕ). member set s ≡ true → key s ≤ key b) k (h .greatest) last;
+        lowest = h .lowest;
+      }
+
+  pub is-newest : (n : ℕ) → Gives key set n (newest key set n)
+  unfolding newest
+  is-newest zero = λ s h. absurd (not-suc-le-zero h)
+  is-newest (suc k) = go (newest key set k) (is-newest k) (member set k) refl
+    where
+      pick : (b : ℕ) → IsNewest key set k b → member set k ≡ true → (t : Bool) → ltb (key b) (key k) ≡ t
+          → Gives key set (suc k) (cond t (some k) (some b))
+      pick b h m true e =
+          let l = ltb-true (key b) (key k) e in later k m (λ s hs p. let g = h .greatest s hs p in omega arith)
+      pick b h m false e = kept k b h (λ p. ltb-false (key b) (key k) e)
+
+      go : (o : Option ℕ) → Gives key set k o → (t : Bool) → member set k ≡ t → Gives key set (suc k) (cond t (newer key k o) o)
+      go none h true m = later k m (λ s hs p. clash p (h s hs))
+      go none h false m = below-suc (λ (s : ℕ). member set s ≡ false) k h m
+      go (some b) h true m = pick b h m (ltb (key b) (key k)) refl
+      go (some b) h false m = kept k b h (λ p. clash p m)
+
+  module _ (n : ℕ) where
+    -- there is one newest: of two, neither is the lower
+    not-lower : (a b : ℕ) → IsNewest key set n a → IsNewest key set n b → b ≤ a
+    not-lower a b p q =
+        by-cases (λ (t : Bool). ltb a b ≡ t → b ≤ a) (ltb a b)
+        (λ _ e. let l = q .lowest a (ltb-true a b e) (p .isPolled) in let g = p .greatest b (q .station) (q .isPolled) in absurd (omega arith))
+        (λ _ e. ltb-false a b e) refl
+
+    pub same-newest : (a b : ℕ) → IsNewest key set n a → IsNewest key set n b → a ≡ b
+    same-newest a b p q = le-antisymm (not-lower b a q p) (not-lower a b p q)
+
+    pub newest-is : (b : ℕ) → IsNewest key set n b → newest key set n ≡ some b
+    newest-is b h = go (newest key set n) (is-newest n)
+      where
+        go : (o : Option ℕ) → Gives key set n o → o ≡ some b
+        go none f = clash (h .isPolled) (f b (h .station))
+        go (some a) f = ap some (same-newest a b f h)
+
+    -- with a station of the set there is a newest
+    pub some-newest : (s : ℕ) → s < n → member set s ≡ true → (b : ℕ) × IsNewest key set n b
+    some-newest s l m = go (newest key set n) (is-newest n)
+      where
+        go : (o : Option ℕ) → Gives key set n o → (b : ℕ) × IsNewest key set n b
+        go none f = clash m (f s l)
+        go (some b) f = (b, f)
+
+-- ---- the copies that it gives
+module _ (copies : ℕ → Copy) (set n : ℕ) where
+  pub by-version : (b : ℕ) → IsNewest (λ s. copies s .version) set n b → byVersion copies set n ≡ copies b
+  unfolding byVersion
+  by-version b h = ap (copyOr copies) (newest-is (λ s. copies s .version) set n b h)
+
+  pub by-generation : (b : ℕ) → IsNewest (λ s. copies s .generation) set n b → byGeneration copies set n ≡ copies b
+  unfolding byGeneration
+  by-generation b h = ap (copyOr copies) (newest-is (λ s. copies s .generation) set n b h)
+
+  -- what the copies of a set with a station give
+  pub record Finds : Type 0 where
+    pub b : ℕ
+    pub newestVersion : IsNewest (λ s. copies s .version) set n b
+    pub version : byVersion copies set n ≡ copies b
+    pub g : ℕ
+    pub newestGeneration : IsNewest (λ s. copies s .generation) set n g
+    pub generation : byGeneration copies set n ≡ copies g
+
+  pub finds : (s : ℕ) → s < n → member set s ≡ true → Finds
+  finds s l m =
+      let x = some-newest (λ s. copies s .version) set n s l m in
+      let y = some-newest (λ s. copies s .generation) set n s l m in
+      record {
+        b = x .0;
+        newestVersion = x .1;
+        version = by-version (x .0) (x .1);
+        g = y .0;
+        newestGeneration = y .1;
+        generation = by-generation (y .0) (y .1);
+      }
+
+  -- a set that hears has a station: with none, the configuration is no list of 32 bytes, and has no sets
+  pub heard-finds : hears copies set n ≡ true → Finds
+  unfolding hears byGeneration
+  heard-finds e = go (newest (λ s. copies s .generation) set n) (is-newest (λ s. copies s .generation) set n) e
+    where
+      go : (o : Option ℕ) → Gives (λ s. copies s .generation) set n o → holdsRead (copyOr copies o .config) set ≡ true → Finds
+      go none f h = clash h (promise .short-read [] set (λ z. absurd (omega arith)))
+      go (some s) f h = finds s (f .station) (f .isPolled)
+
+-- ---- only the stations below n are looked at
+module _ (key key′ : ℕ → ℕ) (set : ℕ) where
+  newest-same : (n : ℕ) → ((s : ℕ) → s < n → key s ≡ key′ s) → newest key set n ≡ newest key′ set n
+  unfolding newest
+  newest-same zero e = refl
+  newest-same (suc k) e = rw (newest-same k (λ s l. e s (omega arith)), newer-same (newest key′ set k) (is-newest key′ set k))
+    where
+      newer-same : (o : Option ℕ) → Gives key′ set k o → newer key k o ≡ newer key′ k o
+      newer-same none h = refl
+      newer-same (some b) h = let l = h .station in rw (e b (omega arith), e k (omega arith))
+
+module _ (cs ds : ℕ → Copy) (set n : ℕ) (e : (s : ℕ) → s < n → cs s ≡ ds s) where
+  -- the copy that is newest by a field
+  same-copy : (field : Copy → ℕ) → copyOr cs (newest (λ s. field (cs s)) set n) ≡ copyOr ds (newest (λ s. field (ds s)) set n)
+  same-copy field =
+      rw (newest-same (λ s. field (cs s)) (λ s. field (ds s)) set n (λ s l. ap field (e s l)))
+      (go (newest (λ s. field (ds s)) set n) (is-newest (λ s. field (ds s)) set n))
+    where
+      go : (o : Option ℕ) → Gives (λ s. field (ds s)) set n o → copyOr cs o ≡ copyOr ds o
+      go none h = refl
+      go (some b) h = e b (h .station)
+
+  pub by-version-same : byVersion cs set n ≡ byVersion ds set n
+  unfolding byVersion
+  by-version-same = same-copy (λ x. x .version)
+
+  pub by-generation-same : byGeneration cs set n ≡ byGeneration ds set n
+  unfolding byGeneration
+  by-generation-same = same-copy (λ x. x .generation)
+
+  pub hears-same : hears cs set n ≡ hears ds set n
+  unfolding hears
+  hears-same = rw by-generation-same

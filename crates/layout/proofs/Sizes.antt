@@ -1,0 +1,57 @@
+-- The sizes that a table can have, and the length that a lay needs.
+use mathlib.Core.Path.{_≡_, refl}
+use mathlib.Core.Bool.{Bool, true, false, _&&_}
+use mathlib.Core.Logic.{_↔_}
+use Prim.Native.Nat.{ℕ, _*_, _≤_}
+use native.Mathlib.Omega.{arith}
+use native.Mathlib.Nat.{mul-le-mul}
+use lib.Dec.{leb}
+use borrow.Author.Tests.{le-leb, leb-true}
+use Rattle.basics.proofs.Tests.{clash, by-cases, fails, and-left, and-right, and-both}
+use Rattle.layout.specs.Layout.{tableLength, largest, listed, layLength}
+
+-- n and m are listed
+abbrev pub Sized : ℕ → ℕ → Type 0
+Sized n m = (1 ≤ n) × (n ≤ 16) × (1 ≤ m) × (m ≤ 32)
+
+pub sized : (n m : ℕ) → (listed n m ≡ true) ↔ Sized n m
+sized n m = (
+  λ h. let three = and-left _ (leb m 32) h in
+      let two = and-left _ (leb 1 m) three in (
+        leb-true 1 n (and-left _ (leb n 16) two),
+        leb-true n 16 (and-right (leb 1 n) _ two),
+        leb-true 1 m (and-right (leb 1 n && leb n 16) _ three),
+        leb-true m 32 (and-right (leb 1 n && leb n 16 && leb 1 m) _ h),
+      ),
+  λ h. and-both _ _ (and-both _ _ (and-both _ _ (le-leb 1 n (h .0)) (le-leb n 16 (h .1))) (le-leb 1 m (h .2))) (le-leb m 32 (h .3)),
+)
+
+-- the length that a lay needs: none, or that of the table
+pub lay-length-out : (n m : ℕ) → (Sized n m → ⊥) → layLength n m ≡ 0
+unfolding layLength
+lay-length-out n m h = rw (fails (listed n m) (λ e. h (sized n m .0 e)))
+
+pub lay-length-in : (n m : ℕ) → Sized n m → layLength n m ≡ tableLength n m
+unfolding layLength
+lay-length-in n m s = rw (sized n m .1 s)
+
+-- sized or not
+by-size : {A : Type 0} (n m : ℕ) → (Sized n m → A) → ((Sized n m → ⊥) → A) → A
+by-size {A} n m f g =
+    by-cases (λ (b : Bool). listed n m ≡ b → A) (listed n m) (λ _ e. f (sized n m .0 e)) (λ _ e. g (λ s. clash (sized n m .1 s) e)) refl
+
+pub product-le : (n m : ℕ) → n ≤ 16 → m ≤ 32 → n * m ≤ 512
+product-le n m a b = mul-le-mul a b
+
+pub lay-length-le : (n m : ℕ) → layLength n m ≤ largest
+unfolding tableLength
+lay-length-le n m =
+    by-size n m (λ s. rw (lay-length-in n m s) (omega (arith, product-le n m (s .1) (s .3)))) (λ h. rw (lay-length-out n m h) (omega arith))
+
+-- a lay that needs nothing is of no size that there is, and one that needs some is
+pub needs-nothing : (n m : ℕ) → layLength n m ≡ 0 → Sized n m → ⊥
+unfolding tableLength
+needs-nothing n m z s = let l = lay-length-in n m s in omega arith
+
+pub needs-some : (n m : ℕ) → (layLength n m ≡ 0 → ⊥) → Sized n m
+needs-some n m z = by-size n m (λ s. s) (λ h. absurd (z (lay-length-out n m h)))

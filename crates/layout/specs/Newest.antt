@@ -1,0 +1,47 @@
+-- What the polled copies give (document 01, "The calls"): "the newest copy by version gives version and value; the newest by
+-- generation gives generation and configuration; on equal numbers the lowest station counts."
+use mathlib.Core.Path.{_≡_}
+use mathlib.Core.Bool.{Bool, true, cond}
+use mathlib.Core.List.{[]}
+use mathlib.Core.Option.{Option, none, some}
+use Prim.Native.Nat.{ℕ, zero, suc, _≤_, _<_}
+use lib.Dec.{ltb}
+use Rattle.quorum.specs.Sets.{member}
+use Rattle.quorum.specs.Configurations.{holdsRead}
+use Rattle.layout.specs.Fields.{Copy}
+
+-- station k, if its key is greater than that of the newest before it
+abbrev pub newer : (ℕ → ℕ) → ℕ → Option ℕ → Option ℕ
+newer key k none = some k
+newer key k (some b) = cond (ltb (key b) (key k)) (some k) (some b)
+
+-- the newest by a key of the stations below a bound that are in the set
+unfoldable pub newest : (ℕ → ℕ) → ℕ → ℕ → Option ℕ
+newest key set zero = none
+newest key set (suc k) = cond (member set k) (newer key k (newest key set k)) (newest key set k)
+
+-- the same by quantifiers: of the stations of the set, as those polled, b has the greatest key, and is the lowest that has it
+pub record IsNewest (key : ℕ → ℕ) (polled n b : ℕ) : Type 0 where
+  pub station : b < n
+  pub isPolled : member polled b ≡ true
+  pub greatest : (s : ℕ) → s < n → member polled s ≡ true → key s ≤ key b
+  pub lowest : (s : ℕ) → s < b → member polled s ≡ true → key s < key b
+
+-- "With nothing polled it is unheard": the empty list has no read set, so that the zeros are never used
+abbrev pub noCopy : Copy
+noCopy = record { version = 0; value = 0; generation = 0; config = [] }
+
+abbrev pub copyOr : (ℕ → Copy) → Option ℕ → Copy
+copyOr copies none = noCopy
+copyOr copies (some s) = copies s
+
+unfoldable pub byVersion : (ℕ → Copy) → ℕ → ℕ → Copy
+byVersion copies set n = copyOr copies (newest (λ s. copies s .version) set n)
+
+unfoldable pub byGeneration : (ℕ → Copy) → ℕ → ℕ → Copy
+byGeneration copies set n = copyOr copies (newest (λ s. copies s .generation) set n)
+
+-- "The round is heard if the polled set holds every station of some read set of that configuration."
+-- In source 000: a read quorum of the configuration with the highest generation that was read has been read.
+unfoldable pub hears : (ℕ → Copy) → ℕ → ℕ → Bool
+hears copies polled n = holdsRead (byGeneration copies polled n .config) polled

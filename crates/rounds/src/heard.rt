@@ -1,0 +1,35 @@
+// Whether a round that has polled some stations is heard, and the copies that it has then found.
+ghost use Rattle.table.specs.Search.{InTable};
+ghost use Rattle.rounds.specs.Heard.{Says};
+use table::copy::address;
+use table::copy::config_at;
+use table::newest::Station;
+use table::newest::search;
+
+// Of a heard round, where the newest copies start: by version, and by generation.
+pub enum Heard {
+    Copies(usize, usize),
+    Not,
+}
+
+pub fn hear(t: &[u8], n: usize, item: usize, polled: u16) -> Heard
+    requires { ⌜ InTable (now t) n item ⌝ }
+    ensures { λ r. ⌜ Says (now (t .entry)) n item polled r ⌝ }
+{
+    // Lent on, so that the compiler hands address and length over in registers.
+    let t = &*t;
+    let found = search(t, n, item, polled);
+    let by_version = found.by_version;
+    let by_generation = found.by_generation;
+    let Station::At(b) = by_version else {
+        return Heard::Not;
+    };
+    let Station::At(g) = by_generation else {
+        return Heard::Not;
+    };
+    let at = address(n, item, g);
+    if quorum::holds_read_set(config_at(t, at), polled) {
+        return Heard::Copies(address(n, item, b), at);
+    }
+    Heard::Not
+}

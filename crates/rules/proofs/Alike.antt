@@ -1,0 +1,253 @@
+-- Tables that look alike get the same replies and look alike after each call.
+use mathlib.Core.Path.{_≡_, refl, sym, ap, _∙_}
+use mathlib.Core.Bool.{Bool, true, false, not, cond, _&&_, _||_}
+use mathlib.Core.List.{List, [], _∷_}
+use mathlib.Core.Logic.{_⊎_, inl, inr}
+use Prim.Native.Nat.{ℕ, zero, suc, _<_}
+use native.Mathlib.Omega.{arith}
+use lib.Dec.{ltb, eqb}
+use lib.ListN.{length}
+use borrow.Author.Tests.{eqb-true, ne-eqb}
+use Rattle.basics.specs.Bytes.{AreBytes}
+use Rattle.basics.proofs.Tests.{clash}
+use Rattle.quorum.specs.Sets.{member, join, remove, full, minus}
+use Rattle.quorum.specs.Configurations.{valid}
+use Rattle.layout.specs.Fields.{Copy, Kind, none, read, write, change}
+use Rattle.layout.specs.Rounds.{withPoll, withPut, withLink}
+use Rattle.layout.specs.Newest.{byGeneration, hears}
+use Rattle.layout.specs.View.{Table, State, view, own, foundByVersion, foundByGeneration, heard}
+use Rattle.layout.proofs.Soundness.{is-sound}
+use Rattle.layout.proofs.Newer.{by-version-same, by-generation-same, hears-same}
+use Rattle.layout.proofs.Stored.{stored, committed}
+use Rattle.rules.specs.Calls.{Call, lay, openRead, openWrite, openChange, poll, put, commit, abandon, link, reach, isLay, isData, isOff}
+use Rattle.rules.specs.Passed.{Passable}
+use Rattle.rules.specs.Rules.{tests, numberOf, first, idle, noSize, noSort, noLink, wrongPut, spent, spentAtPut, written, commitTests}
+use Rattle.rules.specs.Figures.{Figures, figuresOf, closing, reachOf, oneFigure}
+use Rattle.rules.specs.After.{stores, linked}
+use Rattle.rules.specs.Reply.{replyOf, reply, after, answer}
+use Rattle.rules.specs.Lists.{replies, afterAll, AllPassable}
+use Rattle.rules.specs.Needs.{needs, Allowed}
+use Rattle.rules.specs.Alike.{Alike, AlikeTables}
+use Rattle.rules.specs.declared.Reply.{Reply}
+use Rattle.rules.proofs.Judged.{allowed, lay-number, sound-number, unsound-number}
+use Rattle.rules.proofs.States.{next}
+use Rattle.rules.proofs.Views.{Like}
+use Rattle.rules.proofs.Demand1.{refusal-changes-nothing}
+use Rattle.rules.proofs.Laws.{next-view, length-kept, bytes-kept}
+use Rattle.rules.proofs.Kept.{after-sound}
+
+-- a refusal shows no figures
+no-figures : (k : ℕ) (f g : Figures) → (k ≡ 0 → ⊥) → answer k f ≡ answer k g
+no-figures k f g h = rw (ne-eqb k 0 h)
+
+module _ (v w : State) (a : Alike v w) (listed : v .isSound ≡ true → v .round .item < v .m) where
+  -- ---- what a round has found
+  module _ (s : v .isSound ≡ true) where
+    own-same : (u : ℕ) → u < v .n → own v u ≡ own w u
+    own-same u l =
+        ap (λ r. v .copies (r .item) u) (a .round) ∙ a .copies (w .round .item) u (rw (a .round, a .m) at (listed s)) (rw (a .n) at l)
+
+    version-same : foundByVersion v ≡ foundByVersion w
+    version-same = by-version-same (own v) (own w) (v .round .polled) (v .n) own-same ∙ rw (a .n, a .round)
+
+    generation-same : foundByGeneration v ≡ foundByGeneration w
+    generation-same = by-generation-same (own v) (own w) (v .round .polled) (v .n) own-same ∙ rw (a .n, a .round)
+
+    heard-same : heard v ≡ heard w
+    heard-same = hears-same (own v) (own w) (v .round .polled) (v .n) own-same ∙ rw (a .n, a .round)
+
+    polled-same : (u : ℕ) → hears (own v) (withPoll (v .round) u .polled) (v .n) ≡ hears (own w) (withPoll (w .round) u .polled) (w .n)
+    polled-same u = hears-same (own v) (own w) (withPoll (v .round) u .polled) (v .n) own-same ∙ rw (a .n, a .round)
+
+    spent-same : (k : Kind) → spent v k ≡ spent w k
+    spent-same none = refl
+    spent-same read = refl
+    spent-same write = rw version-same
+    spent-same change = rw generation-same
+
+    spent-put-same : (k : Kind) (sort : ℕ) → spentAtPut v k sort ≡ spentAtPut w k sort
+    spent-put-same none sort = refl
+    spent-put-same read sort = refl
+    spent-put-same write sort = spent-same write
+    spent-put-same change sort = rw (spent-same change)
+
+    written-same : (k : Kind) → written v k ≡ written w k
+    written-same none = refl
+    written-same read = refl
+    written-same write = rw (generation-same, a .round)
+    written-same change = rw (generation-same, a .round)
+
+    closing-same : (k : Kind) → closing v k ≡ closing w k
+    closing-same none = refl
+    closing-same read = rw (version-same, generation-same)
+    closing-same write = rw (version-same, generation-same, a .round)
+    closing-same change = rw (version-same, generation-same)
+
+    -- by the kind of the round that is open
+    of-kind : {A : Type 0} (f g : Kind → A) → ((k : Kind) → f k ≡ g k) → f (v .round .kind) ≡ g (w .round .kind)
+    of-kind f g e = e (v .round .kind) ∙ ap (λ r. g (r .kind)) (a .round)
+
+  -- ---- call by call: the same tests; where the call is allowed, the same figures, and states after it that are alike
+  pub record AlikeLaw (c : Call) : Type 0 where
+    pub tested : (isLay c ≡ true) ⊎ (v .isSound ≡ true) → tests v c ≡ tests w c
+    pub figures : Allowed v c → figuresOf v c ≡ figuresOf w c
+    pub states : Allowed v c → Like (next v c) (next w c)
+
+  -- a call that is no lay has been told that the table is sound
+  not-lay : {A : Type 0} → (v .isSound ≡ true → A) → (false ≡ true) ⊎ (v .isSound ≡ true) → A
+  not-lay f (inl e) = clash e refl
+  not-lay f (inr s) = f s
+
+  pub alike-law : (c : Call) → AlikeLaw c
+  unfolding tests figuresOf needs
+  alike-law (lay n m value config) =
+      record {
+        tested = λ _ i. (noSize n m, 2) ∷ (not (a .fits n m i), 1) ∷ (not (valid n config), 3) ∷ [];
+        figures = λ _. refl;
+        states = λ _. record { n = refl; m = refl; off = refl; round = refl; copies = λ i s p q. refl };
+      }
+  alike-law (openRead i) =
+      record {
+        tested = λ _ j. (not (ltb i (a .m j)), 2) ∷ (not (idle (a .round j .kind)), 4) ∷ [];
+        figures = λ _. refl;
+        states = λ _. record { n = a .n; m = a .m; off = a .off; round = refl; copies = a .copies };
+      }
+  alike-law (openWrite i value) =
+      record {
+        tested = λ _ j. (not (ltb i (a .m j)), 2) ∷ (not (idle (a .round j .kind)), 4) ∷ [];
+        figures = λ _. refl;
+        states = λ _. record { n = a .n; m = a .m; off = a .off; round = refl; copies = a .copies };
+      }
+  alike-law (openChange i target) =
+      record {
+        tested = λ _ j. (not (ltb i (a .m j)), 2) ∷ (not (valid (a .n j) target), 3) ∷ (not (idle (a .round j .kind)), 4) ∷ [];
+        figures = λ _. refl;
+        states = λ _. record { n = a .n; m = a .m; off = a .off; round = refl; copies = a .copies };
+      }
+  alike-law (poll s) =
+      record {
+        tested = λ _ j. (not (ltb s (a .n j)), 2) ∷ (idle (a .round j .kind), 5) ∷ (member (a .off j) s, 6)
+            ∷ (not (eqb (a .round j .dataPuts) 0 && eqb (a .round j .configPuts) 0), 7) ∷ [];
+        figures = λ h j. oneFigure (cond (polled-same (h .0) s j) 1 0);
+        states = λ _. record { n = a .n; m = a .m; off = a .off; round = ap (λ r. withPoll r s) (a .round); copies = a .copies };
+      }
+  alike-law (put s sort) =
+      record {
+        tested = not-lay (λ e j. (not (ltb s (a .n j)) || noSort sort, 2) ∷ (idle (a .round j .kind), 5) ∷ (member (a .off j) s, 6) ∷ (not (heard-same e j), 8)
+            ∷ (wrongPut (a .round j .kind) sort, 9) ∷ (of-kind e _ _ (λ k. spent-put-same e k sort) j, 10) ∷ []);
+        figures = λ _. refl;
+        states = λ _. record { n = a .n; m = a .m; off = a .off; round = ap (λ r. withPut r s (isData sort)) (a .round); copies = a .copies };
+      }
+  alike-law commit =
+      record {
+        tested = not-lay (λ e j. (idle (a .round j .kind), 5) ∷ (not (heard-same e j), 8) ∷ (of-kind e _ _ (spent-same e) j, 10)
+            ∷ (not (of-kind e _ _ (written-same e) j), 11) ∷ []);
+        figures = λ h. of-kind (h .0) _ _ (closing-same (h .0));
+        states = λ h. record {
+          n = a .n;
+          m = a .m;
+          off = a .off;
+          round = refl;
+          copies = λ i s p q j. let r = a .round j in
+              stored (eqb i (r .item) && member (r .dataPuts) s) (eqb i (r .item) && member (r .configPuts) s)
+              (stores (of-kind (h .0) _ _ (closing-same (h .0)) j) (r .target)) (a .copies i s p q j);
+        };
+      }
+  alike-law abandon =
+      record {
+        tested = λ _ j. (idle (a .round j .kind), 5) ∷ [];
+        figures = λ _. refl;
+        states = λ _. record { n = a .n; m = a .m; off = a .off; round = refl; copies = a .copies };
+      }
+  alike-law (link s state) =
+      record {
+        tested = λ _ j. (not (ltb s (a .n j)) || noLink state, 2) ∷ [];
+        figures = λ _. refl;
+        states = λ _. record {
+          n = a .n;
+          m = a .m;
+          off = λ j. cond (isOff state) (join (a .off j) s) (remove (a .off j) s);
+          round = ap (λ r. withLink r s (isOff state)) (a .round);
+          copies = a .copies;
+        };
+      }
+  alike-law (reach i) =
+      record {
+        tested = λ _ j. (not (ltb i (a .m j)), 2) ∷ [];
+        figures = λ h. ap (λ x. oneFigure (reachOf (x .config) (minus (full (v .n)) (v .off))))
+            (by-generation-same (v .copies i) (w .copies i) (full (v .n)) (v .n) (λ s l. a .copies i s (rw (a .m) at (h .1 .0)) (rw (a .n) at l)))
+            ∙ rw (a .n, a .off);
+        states = λ _. record { n = a .n; m = a .m; off = a .off; round = a .round; copies = a .copies };
+      }
+
+  -- ---- the reply
+  number-same : (c : Call) → numberOf v c ≡ numberOf w c
+  number-same c = go (isLay c) refl (v .isSound) refl
+    where
+      go : (lay? : Bool) → isLay c ≡ lay? → (sound? : Bool) → v .isSound ≡ sound? → numberOf v c ≡ numberOf w c
+      go true l s e = lay-number v c l ∙ ap first (alike-law c .tested (inl l)) ∙ sym (lay-number w c l)
+      go false l true e =
+          sound-number v c l e ∙ ap first (alike-law c .tested (inr e)) ∙ sym (sound-number w c l (sym (a .isSound) ∙ e))
+      go false l false e = unsound-number v c l e ∙ sym (unsound-number w c l (sym (a .isSound) ∙ e))
+
+  pub same-reply : (c : Call) → replyOf v c ≡ replyOf w c
+  unfolding replyOf
+  same-reply c = go (numberOf v c) refl
+    where
+      go : (k : ℕ) → numberOf v c ≡ k → answer (numberOf v c) (figuresOf v c) ≡ answer (numberOf w c) (figuresOf w c)
+      go zero e = λ j. answer (number-same c j) (alike-law c .figures (allowed v c e) j)
+      go (suc k) e =
+          no-figures (numberOf v c) (figuresOf v c) (figuresOf w c) (λ z. let q : suc k ≡ 0 = sym e ∙ z in omega arith)
+          ∙ ap (λ x. answer x (figuresOf w c)) (number-same c)
+
+-- ---- tables
+module _ (t u : Table) (c : Call) (bt : AreBytes t) (bu : AreBytes u) (p : Passable c) (a : Alike (view t) (view u)) where
+  item-listed : view t .isSound ≡ true → view t .round .item < view t .m
+  item-listed s = is-sound t s .item
+
+  number-eq : reply t c .number ≡ reply u c .number
+  number-eq = ap (λ r. r .number) (same-reply (view t) (view u) a item-listed c)
+
+  -- the length tells which sizes fit, and stays
+  fits-after : (n m : ℕ) → view (after t c) .fits n m ≡ view (after u c) .fits n m
+  unfolding view
+  fits-after n m = rw (length-kept t c, length-kept u c) (a .fits n m)
+
+  alike-done : reply t c .number ≡ 0 → Alike (view (after t c)) (view (after u c))
+  unfolding view replyOf
+  alike-done e =
+      let d : reply u c .number ≡ 0 = sym number-eq ∙ e in
+      let x = next-view t c e bt p in
+      let y = next-view u c d bu p in
+      let z = alike-law (view t) (view u) a item-listed c .states (allowed (view t) c e) in
+      record {
+        isSound = after-sound t c bt p e ∙ sym (after-sound u c bu p d);
+        fits = fits-after;
+        n = x .n ∙ z .n ∙ sym (y .n);
+        m = x .m ∙ z .m ∙ sym (y .m);
+        off = x .off ∙ z .off ∙ sym (y .off);
+        round = x .round ∙ z .round ∙ sym (y .round);
+        copies = λ i s p q. let i′ = rw (y .m) at p in let s′ = rw (y .n) at q in
+            x .copies i s (rw (z .m) i′) (rw (z .n) s′) ∙ z .copies i s i′ s′ ∙ sym (y .copies i s i′ s′);
+      }
+
+  alike-after : Alike (view (after t c)) (view (after u c))
+  alike-after = go (reply t c .number) refl
+    where
+      go : (k : ℕ) → reply t c .number ≡ k → Alike (view (after t c)) (view (after u c))
+      go zero e = alike-done e
+      go (suc k) e =
+          let no : reply t c .number ≡ 0 → ⊥ = λ z. let q : suc k ≡ 0 = sym e ∙ z in omega arith in
+          rw (refusal-changes-nothing t c no, refusal-changes-nothing u c (λ z. no (number-eq ∙ z))) a
+
+same-replies : (t u : Table) (calls : List Call) → AreBytes t → AreBytes u → AllPassable calls → Alike (view t) (view u)
+    → (replies t calls ≡ replies u calls) × Alike (view (afterAll t calls)) (view (afterAll u calls))
+unfolding replies afterAll
+same-replies t u [] bt bu p a = (refl, a)
+same-replies t u (c ∷ calls) bt bu p a =
+    let b = alike-after t u c bt bu (p .0) a in
+    let rest = same-replies (after t c) (after u c) calls (bytes-kept t c bt (p .0)) (bytes-kept u c bu (p .0)) (p .1) b in
+    (λ j. same-reply (view t) (view u) a (item-listed t u c bt bu (p .0) a) c j ∷ rest .0 j, rest .1)
+
+pub alike-tables : AlikeTables
+alike-tables = record { same-reply = λ v w c a i. same-reply v w a i c; alike-after = alike-after; same-replies = same-replies }

@@ -1,0 +1,5 @@
+// The bytes of the table.
+pub mod copy;
+pub mod head;
+pub mod newest;
+pub mod number;

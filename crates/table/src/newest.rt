@@ -1,0 +1,97 @@
+// What the copies of an item at the stations of a set give: the newest by version and the newest by generation.
+ghost use mathlib.Core.Path.{_≡_};
+ghost use Prim.Native.Nat.{_<_};
+ghost use Rattle.layout.specs.Newest.{newest, newer};
+ghost use Rattle.table.specs.Search.{asOption, Below, InTable, versionsOf, generationsOf};
+use crate::copy::address;
+use crate::copy::generation_at;
+use crate::copy::version_at;
+
+// A station of the set, or nobody where the set has none.
+pub enum Station {
+    At(usize),
+    Nobody,
+}
+
+// The stations whose copies are the newest.
+pub struct Newest {
+    pub by_version: Station,
+    pub by_generation: Station,
+}
+
+// Station s, if its version is greater than that of the newest before it.
+fn newer_version(t: &[u8], n: usize, item: usize, best: Station, s: usize) -> Station
+    requires { ⌜ InTable (now t) n item × (s < n) × Below n (asOption best) ⌝ }
+    ensures { λ r. ⌜ asOption r ≡ newer (versionsOf (now (t .entry)) n item) s (asOption best) ⌝ }
+{
+    let Station::At(b) = best else {
+        return Station::At(s);
+    };
+    let old = version_at(t, address(n, item, b));
+    if version_at(t, address(n, item, s)).is_newer(old) {
+        return Station::At(s);
+    }
+    Station::At(b)
+}
+
+fn newer_generation(t: &[u8], n: usize, item: usize, best: Station, s: usize) -> Station
+    requires { ⌜ InTable (now t) n item × (s < n) × Below n (asOption best) ⌝ }
+    ensures { λ r. ⌜ asOption r ≡ newer (generationsOf (now (t .entry)) n item) s (asOption best) ⌝ }
+{
+    let Station::At(b) = best else {
+        return Station::At(s);
+    };
+    let old = generation_at(t, address(n, item, b));
+    if generation_at(t, address(n, item, s)).is_newer(old) {
+        return Station::At(s);
+    }
+    Station::At(b)
+}
+
+// The station of the set with the newest version of the item; the lowest on equal versions.
+fn newest_version(t: &[u8], n: usize, item: usize, set: u16) -> Station
+    requires { ⌜ InTable (now t) n item ⌝ }
+    ensures { λ r. ⌜ asOption r ≡ newest (versionsOf (now (t .entry)) n item) set n ⌝ }
+{
+    let mut best = Station::Nobody;
+    let mut rest = set;
+    while rest != 0 {
+        let s = quorum::lowest(rest);
+        if n <= s {
+            return best;
+        }
+        best = newer_version(t, n, item, best, s);
+        rest = quorum::without_lowest(rest);
+    }
+    best
+}
+
+// The same by generation.
+fn newest_generation(t: &[u8], n: usize, item: usize, set: u16) -> Station
+    requires { ⌜ InTable (now t) n item ⌝ }
+    ensures { λ r. ⌜ asOption r ≡ newest (generationsOf (now (t .entry)) n item) set n ⌝ }
+{
+    let mut best = Station::Nobody;
+    let mut rest = set;
+    while rest != 0 {
+        let s = quorum::lowest(rest);
+        if n <= s {
+            return best;
+        }
+        best = newer_generation(t, n, item, best, s);
+        rest = quorum::without_lowest(rest);
+    }
+    best
+}
+
+// Both searches.
+pub fn search(t: &[u8], n: usize, item: usize, set: u16) -> Newest
+    requires { ⌜ InTable (now t) n item ⌝ }
+    ensures { λ r. ⌜ asOption (r .«by_version») ≡ newest (versionsOf (now (t .entry)) n item) set n ⌝ }
+    ensures { λ r. ⌜ asOption (r .«by_generation») ≡ newest (generationsOf (now (t .entry)) n item) set n ⌝ }
+{
+    Newest {
+        by_version: newest_version(t, n, item, set),
+        by_generation: newest_generation(t, n, item, set),
+    }
+}
