@@ -1,6 +1,6 @@
 -- The figures of poll and reach, from what the code's searches found.
 use mathlib.Core.Path.{_≡_, ap, _∙_}
-use mathlib.Core.Bool.{true, cond}
+use mathlib.Core.Bool.{Bool, true, cond}
 use mathlib.Core.List.{List, []}
 use Prim.Native.Nat.{ℕ, _<_}
 use native.Mathlib.Omega.{arith}
@@ -15,35 +15,24 @@ use Rattle.layout.specs.View.{view}
 use Rattle.table.specs.Search.{asOption, InTable, copiesOf, generationsOf}
 use Rattle.table.specs.declared.newest.Station.{Station}
 use Rattle.table.specs.declared.newest.Station.the-variants.{At, Nobody}
-use Rattle.rounds.specs.Heard.{Says}
-use Rattle.rounds.specs.declared.heard.Heard.{Heard}
-use Rattle.rounds.specs.declared.heard.Heard.the-variants.{Copies, Not}
 use Rattle.rounds.proofs.Hearing.{items-in-table}
 use Rattle.rules.specs.Calls.{poll}
 use Rattle.rules.specs.Figures.{oneFigure, reachOf, reachFigure, figuresOf}
 use Rattle.rules.specs.Reply.{answer}
 use Rattle.rules.specs.declared.Reply.{Reply}
-use Rattle.calls.specs.Hearing.{isCopies}
 
 -- a reply of one figure
 abbrev pub figureReply : ℕ → Reply
 figureReply x = answer 0 (oneFigure x)
 
 -- ---- poll
--- the figure of an answer
-answer-figure : (t : List ℕ) (n i polled : ℕ) (a : Heard) → Says t n i polled a
-    → _≡_ {A = ℕ} (cond (isCopies a) 1 0) (cond (hears (copiesOf t n i) polled n) 1 0)
-answer-figure t n i polled (Copies b g) h = rw (h .0)
-answer-figure t n i polled Not h = rw h
-
--- the answer for the stations and the item that were read, and the polled set with one more station
-pub poll-figure : (t : List ℕ) (s : ℕ) (a : Heard) {n i polled figure : ℕ} → n ≡ stations t → i ≡ roundOf t .item
-    → polled ≡ withPoll (roundOf t) s .polled → Says t n i polled a → figure ≡ cond (isCopies a) 1 0
+-- by the stations and the item that were read, and the polled set with one more station
+pub poll-figure : (t : List ℕ) (s : ℕ) {n i polled figure : ℕ} {heard : Bool} → n ≡ stations t → i ≡ roundOf t .item
+    → polled ≡ withPoll (roundOf t) s .polled → heard ≡ hears (copiesOf t n i) polled n → figure ≡ cond heard 1 0
     → figureReply figure ≡ answer 0 (figuresOf (view t) (poll s))
 unfolding figuresOf view
-poll-figure t s a e f g h q =
-    let own : Says t (stations t) (roundOf t .item) (withPoll (roundOf t) s .polled) a = rw (e, f, g) at h in
-    ap figureReply (q ∙ answer-figure t _ _ _ a own)
+poll-figure t s e f g h q =
+    let own = rw (e, f, g) at h in ap figureReply (q ∙ ap (λ b. cond b 1 0) own)
 
 -- ---- reach: the newest configuration among all copies of an item
 -- the copies lie in the table, by the stations that were read

@@ -1,97 +1,43 @@
-// The calls but lay on a sound table: each asks for its number, and if that is 0 does what it is for.
+// The other calls but lay, on a sound table: each asks for its number, and if that is 0 does what it is for.
 ghost use mathlib.Core.Path.{_≡_};
 ghost use mathlib.Core.Bool.{true, cond};
 ghost use Prim.Native.Nat.{_<_};
 ghost use Rattle.layout.specs.Fields.{items};
 ghost use Rattle.layout.specs.Soundness.{sound};
 ghost use Rattle.layout.specs.View.{view};
-ghost use Rattle.rules.specs.Calls.{openRead, openWrite, openChange, poll, put, commit, abandon, link, reach};
+ghost use Rattle.rules.specs.Calls.{poll, put, commit, link, reach};
 ghost use Rattle.rules.specs.Figures.{reachFigure};
 ghost use Rattle.rules.specs.Reply.{reply, after};
-ghost use Rattle.calls.specs.Hearing.{isCopies};
 use closing::commit_reply;
 use numbers::DATA;
 use numbers::DONE;
 use numbers::OFF;
-use numbers::abandon_number;
 use numbers::link_number;
-use numbers::open_change_number;
-use numbers::open_number;
 use numbers::plain;
 use numbers::poll_number;
 use numbers::put_number;
 use numbers::reach_number;
-use rounds::heard::Heard;
-use rounds::heard::hear;
+use rounds::heard::is_heard;
 use rounds::round::Round;
 use rules::Reply;
 use table::copy::Generation;
 use table::copy::Version;
 use table::copy::address;
 use table::copy::config_at;
-use table::head::CHANGE;
-use table::head::NO_ROUND;
-use table::head::READ;
-use table::head::WRITE;
 use table::head::off_set;
 use table::head::set_off;
 use table::head::set_polled;
 use table::head::set_puts;
-use table::head::set_round;
 use table::head::stations;
 use table::newest::Station;
 use table::newest::search;
-use table::number::CONFIG_SIZE;
-use table::number::config_bytes_at;
 use writes::finish;
 
-pub fn open_read_on(t: &mut [u8], i: u64) -> Reply
-    requires { ⌜ sound (now t) ≡ true ⌝ }
-    ensures { λ r. ⌜ r ≡ reply (now (t .entry)) (openRead i) ⌝ }
-    ensures { λ _. ⌜ now (t .exit) ≡ after (now (t .entry)) (openRead i) ⌝ }
+// 1 if the test holds, else 0.
+fn one_if(test: bool) -> u64
+    ensures { λ r. ⌜ r ≡ cond test 1 0 ⌝ }
 {
-    let number = open_number(t, i);
-    if number != DONE {
-        return plain(number);
-    }
-    set_round(t, READ, i as u8, 0, [0u8; CONFIG_SIZE]);
-    plain(DONE)
-}
-
-pub fn open_write_on(t: &mut [u8], i: u64, value: u64) -> Reply
-    requires { ⌜ sound (now t) ≡ true ⌝ }
-    ensures { λ r. ⌜ r ≡ reply (now (t .entry)) (openWrite i value) ⌝ }
-    ensures { λ _. ⌜ now (t .exit) ≡ after (now (t .entry)) (openWrite i value) ⌝ }
-{
-    let number = open_number(t, i);
-    if number != DONE {
-        return plain(number);
-    }
-    set_round(t, WRITE, i as u8, value, [0u8; CONFIG_SIZE]);
-    plain(DONE)
-}
-
-pub fn open_change_on(t: &mut [u8], i: u64, target: &[u8]) -> Reply
-    requires { ⌜ sound (now t) ≡ true ⌝ }
-    ensures { λ r. ⌜ r ≡ reply (now (t .entry)) (openChange i (now (target .entry))) ⌝ }
-    ensures { λ _. ⌜ now (t .exit) ≡ after (now (t .entry)) (openChange i (now (target .entry))) ⌝ }
-{
-    let number = open_change_number(t, i, target);
-    if number != DONE {
-        return plain(number);
-    }
-    set_round(t, CHANGE, i as u8, 0, config_bytes_at(target, 0));
-    plain(DONE)
-}
-
-// 1 if the round is heard, else 0.
-fn heard_figure(heard: Heard) -> u64
-    ensures { λ r. ⌜ r ≡ cond (isCopies heard) 1 0 ⌝ }
-{
-    match heard {
-        Heard::Copies(_, _) => 1,
-        Heard::Not => 0,
-    }
+    if test { 1 } else { 0 }
 }
 
 pub fn poll_on(t: &mut [u8], station: u64) -> Reply
@@ -104,11 +50,11 @@ pub fn poll_on(t: &mut [u8], station: u64) -> Reply
         return plain(number);
     }
     let round = Round::of(t).poll(station as usize);
-    let heard = hear(t, stations(t), round.item, round.polled);
+    let heard = is_heard(t, stations(t), round.item, round.polled);
     set_polled(t, round.polled);
     Reply {
         number: DONE,
-        first: heard_figure(heard),
+        first: one_if(heard),
         second: 0,
         third: 0,
     }
@@ -142,19 +88,6 @@ pub fn commit_on(t: &mut [u8]) -> Reply
     let generation = Generation(outcome.third);
     finish(t, stations(t), round, outcome.first, version, generation);
     outcome
-}
-
-pub fn abandon_on(t: &mut [u8]) -> Reply
-    requires { ⌜ sound (now t) ≡ true ⌝ }
-    ensures { λ r. ⌜ r ≡ reply (now (t .entry)) abandon ⌝ }
-    ensures { λ _. ⌜ now (t .exit) ≡ after (now (t .entry)) abandon ⌝ }
-{
-    let number = abandon_number(t);
-    if number != DONE {
-        return plain(number);
-    }
-    set_round(t, NO_ROUND, 0, 0, [0u8; CONFIG_SIZE]);
-    plain(DONE)
 }
 
 pub fn link_on(t: &mut [u8], station: u64, state: u64) -> Reply

@@ -15,8 +15,7 @@ use Rattle.rules.specs.Figures.{Figures, figuresOf, closing}
 use Rattle.rules.specs.Reply.{answer, replyOf, reply}
 use Rattle.rules.proofs.Judged.{a-round, sound-number}
 use Rattle.rules.specs.declared.Reply.{Reply}
-use Rattle.numbers.specs.Put.{HeardAt}
-use Rattle.closing.specs.Closing.{closingReply}
+use Rattle.closing.specs.Closing.{HeardAt, closingReply}
 
 -- ---- the reply, by the tests
 abbrev pub refusal : ℕ → Reply

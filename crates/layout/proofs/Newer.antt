@@ -14,7 +14,7 @@ use Rattle.quorum.specs.Configurations.{holdsRead}
 use Rattle.basics.proofs.Tests.{clash, by-cases, below-suc}
 use Rattle.quorum.proofs.Promise.{promise}
 use Rattle.layout.specs.Fields.{Copy}
-use Rattle.layout.specs.Newest.{newest, newer, IsNewest, copyOr, byVersion, byGeneration, hears}
+use Rattle.layout.specs.Newest.{newest, newer, IsNewest, NewestExactly, copyOr, byVersion, byGeneration, hears}
 
 -- what `newest` gives
 abbrev pub Gives : (ℕ → ℕ) → ℕ → ℕ → Option ℕ → Type 0
@@ -84,6 +84,21 @@ module _ (key : ℕ → ℕ) (set : ℕ) where
         go : (o : Option ℕ) → Gives key set n o → (b : ℕ) × IsNewest key set n b
         go none f = clash m (f s l)
         go (some b) f = (b, f)
+
+-- the statement of specs/Newest.antt
+pub newest-exactly : NewestExactly
+newest-exactly =
+    record {
+      is-newest = λ key set n b. (λ e. rw e at (is-newest key set n), newest-is key set n b);
+      nobody = λ key set n. (λ e. rw e at (is-newest key set n), nobody key set n);
+    }
+  where
+    nobody : (key : ℕ → ℕ) (set n : ℕ) → ((s : ℕ) → s < n → member set s ≡ false) → newest key set n ≡ none
+    nobody key set n h = go (newest key set n) (is-newest key set n)
+      where
+        go : (o : Option ℕ) → Gives key set n o → o ≡ none
+        go none f = refl
+        go (some b) f = clash (f .isPolled) (h b (f .station))
 
 -- ---- the copies that it gives
 module _ (copies : ℕ → Copy) (set n : ℕ) where

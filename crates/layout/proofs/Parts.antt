@@ -1,7 +1,7 @@
 -- Parts of a list of bytes, what a write leaves of them, and numbers in bytes.
 use mathlib.Core.Path.{_≡_, refl, sym, ap, _∙_}
 use mathlib.Core.List.{List, [], _∷_, _++_, append-assoc}
-use Prim.Native.Nat.{ℕ, zero, suc, _+_, _-_, _/_, _^_, _≤_, _<_}
+use Prim.Native.Nat.{ℕ, zero, suc, _+_, _-_, _*_, _/_, _%_, _^_, _≤_, _<_}
 use native.Mathlib.Omega.{arith}
 use native.Mathlib.Nat.{one-le-pow, zero-lt-suc, add-zero}
 use lib.ListN.{length, take, drop, set, replicate, length-append, length-take, length-drop, length-set, take-append-drop}
@@ -141,3 +141,21 @@ over-append t a (x ∷ l) r h =
     let f : suc a + length (l ++ r) ≤ length (set t a x) = rw (length-set) (omega arith) in
     let e : suc a + length l ≡ a + suc (length l) = omega arith in
     rw (over-cons t a x (l ++ r) q, over-cons t a x l q, ← e) (over-append (set t a x) (suc a) l r f)
+
+-- bytes that are written where they stand change nothing
+pub own-bytes : (l : List ℕ) → AreBytes l → bytesOf (length l) (littleEndian l) ≡ l
+unfolding bytesOf littleEndian
+own-bytes [] b = refl
+own-bytes (x ∷ l) b =
+    let low : (x + 256 * littleEndian l) % 256 ≡ x = omega (arith, b .0) in
+    let high : (x + 256 * littleEndian l) / 256 ≡ littleEndian l = omega (arith, b .0) in
+    rw (low, high, own-bytes l (b .1))
+
+pub over-own : (t : List ℕ) (a k : ℕ) → a + k ≤ length t → over t a (part t a k) ≡ t
+unfolding over
+over-own t a k h =
+    rw (part-length t a k h, ← drop-drop k a t, take-append-drop k (drop a t), take-append-drop a t)
+
+-- the bytes of a number that stands in them
+pub number-bytes : (t : List ℕ) (a k : ℕ) → AreBytes t → a + k ≤ length t → bytesOf k (number t a k) ≡ part t a k
+number-bytes t a k b h = rw (part-length t a k h) at (own-bytes (part t a k) (bytes-part t a k b))

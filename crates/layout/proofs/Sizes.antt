@@ -43,6 +43,11 @@ by-size {A} n m f g =
 pub product-le : (n m : ℕ) → n ≤ 16 → m ≤ 32 → n * m ≤ 512
 product-le n m a b = mul-le-mul a b
 
+-- the largest table is that of 16 stations and 32 items, and no lay needs more
+largest-is : tableLength 16 32 ≡ largest
+unfolding tableLength
+largest-is = refl
+
 pub lay-length-le : (n m : ℕ) → layLength n m ≤ largest
 unfolding tableLength
 lay-length-le n m =

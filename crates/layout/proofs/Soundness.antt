@@ -19,42 +19,13 @@ use Rattle.layout.specs.Layout.{headSize, tableLength, kindAt, itemAt, p
 use Rattle.layout.specs.Fields.{Kind, none, read, write, change, Round, stations, items, roundOf}
 use Rattle.layout.specs.Soundness.{roundSound, copiesValid, soundness, sound}
 use Rattle.layout.specs.View.{State, view}
+pub use Rattle.layout.specs.SoundFacts.{RoundFacts, StateSound, Sound}
+use Rattle.layout.specs.SoundFacts.{SoundExactly}
 
 infixr 20 _&_
 -- a fact before the facts that follow it
 _&_ : {A B : Type 0} → A → B → A × B
 a & b = (a, b)
-
--- ---- what soundness asks of a round, by its kind
-abbrev pub RoundFacts : ℕ → Round → Kind → Type 0
-RoundFacts n r none =
-    (r .item ≡ 0) × (r .polled ≡ 0) × (r .dataPuts ≡ 0) × (r .configPuts ≡ 0) × (r .value ≡ 0) × (littleEndian (r .target) ≡ 0)
-RoundFacts n r read = (r .dataPuts ≡ 0) × (r .configPuts ≡ 0) × (r .value ≡ 0) × (littleEndian (r .target) ≡ 0)
-RoundFacts n r write = (r .configPuts ≡ 0) × (littleEndian (r .target) ≡ 0)
-RoundFacts n r change = (r .value ≡ 0) × (valid n (r .target) ≡ true)
-
--- of the state
-pub record StateSound (v : State) : Type 0 where
-  pub positive : 1 ≤ v .n
-  pub small : v .n ≤ 16
-  pub someItem : 1 ≤ v .m
-  pub fewItems : v .m ≤ 32
-  pub item : v .round .item < v .m
-  pub off : within (v .n) (v .off) ≡ true
-  pub polled : within (v .n) (v .round .polled) ≡ true
-  pub dataPuts : within (v .n) (v .round .dataPuts) ≡ true
-  pub configPuts : within (v .n) (v .round .configPuts) ≡ true
-  pub dataOn : shares (v .round .dataPuts) (v .off) ≡ false
-  pub configOn : shares (v .round .configPuts) (v .off) ≡ false
-  pub round : RoundFacts (v .n) (v .round) (v .round .kind)
-  pub configs : (i s : ℕ) → i < v .m → s < v .n → valid (v .n) (v .copies i s .config) ≡ true
-
--- of the table: its length, the byte of its round, the spare bytes, and its state
-pub record Sound (t : List ℕ) : Type 0 where
-  pub size : length t ≡ tableLength (stations t) (items t)
-  pub kind : number t kindAt 1 ≤ 3
-  pub spare : number t spareAt 4 ≡ 0
-  pub state : StateSound (view t)
 
 -- ---- zero bytes
 -- a number is zero where both of its parts are
@@ -166,3 +137,7 @@ is-sound t e = sound-table t e .state
 -- a sound table has a head
 pub sound-head : (t : List ℕ) → sound t ≡ true → headSize ≤ length t
 sound-head t e = rw (sound-facts t e .size) (table-head (stations t) (items t))
+
+-- the statement of specs/SoundFacts.antt
+pub sound-exactly : SoundExactly
+sound-exactly = record { exactly = λ t. (sound-facts t, facts-sound t) }

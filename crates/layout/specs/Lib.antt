@@ -4,4 +4,5 @@ pub mod Rounds
 pub mod Newest
 pub mod Soundness
 pub mod View
+pub mod SoundFacts
 pub mod Updates

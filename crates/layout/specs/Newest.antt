@@ -1,7 +1,8 @@
 -- What the polled copies give (document 01, "The calls"): "the newest copy by version gives version and value; the newest by
 -- generation gives generation and configuration; on equal numbers the lowest station counts."
 use mathlib.Core.Path.{_≡_}
-use mathlib.Core.Bool.{Bool, true, cond}
+use mathlib.Core.Bool.{Bool, true, false, cond}
+use mathlib.Core.Logic.{_↔_}
 use mathlib.Core.List.{[]}
 use mathlib.Core.Option.{Option, none, some}
 use Prim.Native.Nat.{ℕ, zero, suc, _≤_, _<_}
@@ -26,6 +27,11 @@ pub record IsNewest (key : ℕ → ℕ) (polled n b : ℕ) : Type 0 where
   pub isPolled : member polled b ≡ true
   pub greatest : (s : ℕ) → s < n → member polled s ≡ true → key s ≤ key b
   pub lowest : (s : ℕ) → s < b → member polled s ≡ true → key s < key b
+
+-- the two are one, and there is none exactly if the set has no station below the bound
+pub record NewestExactly : Type 0 where
+  pub is-newest : (key : ℕ → ℕ) (set n b : ℕ) → (newest key set n ≡ some b) ↔ IsNewest key set n b
+  pub nobody : (key : ℕ → ℕ) (set n : ℕ) → (newest key set n ≡ none) ↔ ((s : ℕ) → s < n → member set s ≡ false)
 
 -- "With nothing polled it is unheard": the empty list has no read set, so that the zeros are never used
 abbrev pub noCopy : Copy

@@ -5,19 +5,19 @@ use mathlib.Core.List.{List}
 use Prim.Native.Nat.{ℕ, zero, suc, _≤_, _<_}
 use lib.Dec.{ltb, eqb}
 use borrow.Author.Tests.{lt-ltb, le-ltb}
-use Rattle.layout.specs.Fields.{none, change, kindOf, stations, roundOf}
-use Rattle.table.specs.Search.{InTable}
+use Rattle.layout.specs.Layout.{address}
+use Rattle.layout.specs.Fields.{none, change, kindOf, stations, roundOf, copyFrom}
+use Rattle.layout.specs.Newest.{newest, noCopy, byVersion, byGeneration, hears}
 use Rattle.layout.specs.Soundness.{sound}
-use Rattle.layout.specs.View.{view, heard}
+use Rattle.layout.specs.View.{view, foundByVersion, foundByGeneration, heard}
+use Rattle.table.specs.Search.{asOption, InTable, copiesOf, versionsOf, generationsOf}
+use Rattle.table.specs.declared.newest.Station.{Station}
+use Rattle.table.specs.declared.newest.Station.the-variants.{At, Nobody}
 use Rattle.layout.proofs.Soundness.{sound-facts}
 use Rattle.quorum.specs.Sets.{member}
 use Rattle.quorum.specs.Configurations.{valid}
-use Rattle.rounds.specs.Heard.{Says}
-use Rattle.rounds.specs.declared.heard.Heard.{Heard}
-use Rattle.rounds.specs.declared.heard.Heard.the-variants.{Copies, Not}
-use Rattle.rounds.proofs.Hearing.{items-in-table, says-heard, says-unheard}
+use Rattle.rounds.proofs.Hearing.{items-in-table}
 use Rattle.rules.specs.Rules.{idle, last}
-use Rattle.numbers.specs.Put.{HeardAt}
 
 -- ---- what the code's tests come to
 -- a test that the code makes by a function, and turns round
@@ -83,28 +83,28 @@ pub own-copies : (t : List ℕ) → sound t ≡ true → {n i : ℕ} → n ≡ s
 unfolding view
 own-copies t e a b = rw (a, b) (items-in-table t e (roundOf t .item) (sound-facts t e .state .item))
 
--- its answer is that of the table's own round
-abbrev pub OwnSays : List ℕ → Heard → Type 0
-OwnSays t answer = Says t (stations t) (roundOf t .item) (roundOf t .polled) answer
+-- the answer of `is_heard` is the round's
+pub own-heard : (t : List ℕ) {n i p : ℕ} {r : Bool} → n ≡ stations t → i ≡ roundOf t .item → p ≡ roundOf t .polled
+    → r ≡ hears (copiesOf t n i) p n → r ≡ heard (view t)
+unfolding view
+own-heard t a b c h = rw (a, b, c) at h
 
-pub own-says : (t : List ℕ) (answer : Heard) {n i p : ℕ} → n ≡ stations t → i ≡ roundOf t .item → p ≡ roundOf t .polled
-    → Says t n i p answer → OwnSays t answer
-own-says t answer a b c h = rw (a, b, c) at h
+-- ---- the copies that it has found, by one of the two searches over its polled copies, and the place of the copy
+module _ (t : List ℕ) {n i p : ℕ} (a : n ≡ stations t) (b : i ≡ roundOf t .item) (c : p ≡ roundOf t .polled) (found : Station) where
+  pub nobody-by-version : asOption found ≡ newest (versionsOf t n i) p n → found ≡ Nobody → foundByVersion (view t) ≡ noCopy
+  unfolding view byVersion
+  nobody-by-version e f = let own = rw (a, b, c) at e in rw (← own, f)
 
-module _ (t : List ℕ) {answer : Heard} (h : OwnSays t answer) where
-  pub not-heard : answer ≡ Not → heard (view t) ≡ false
-  not-heard f = says-unheard t (rw f at h)
+  pub nobody-by-generation : asOption found ≡ newest (generationsOf t n i) p n → found ≡ Nobody → foundByGeneration (view t) ≡ noCopy
+  unfolding view byGeneration
+  nobody-by-generation e f = let own = rw (a, b, c) at e in rw (← own, f)
 
-  pub heard-at : {x y : ℕ} → sound t ≡ true → (view t .round .kind ≡ none → ⊥) → answer ≡ Copies x y → HeardAt t x y
-  heard-at {x} {y} e k f =
-      let own : OwnSays t (Copies x y) = rw f at h in
-      let found = says-heard t x y own in
-      record {
-        isSound = e;
-        isOpen = k;
-        isHeard = found .0;
-        version = found .1;
-        generation = found .2;
-        version-fits = own .1 .version-fits;
-        generation-fits = own .1 .generation-fits;
-      }
+  pub found-by-version : {s d : ℕ} → asOption found ≡ newest (versionsOf t n i) p n → found ≡ At s → d ≡ address n i s
+      → copyFrom t d ≡ foundByVersion (view t)
+  unfolding view byVersion
+  found-by-version e f q = let own = rw (a, b, c) at e in rw (← own, f, q, a, b)
+
+  pub found-by-generation : {s d : ℕ} → asOption found ≡ newest (generationsOf t n i) p n → found ≡ At s → d ≡ address n i s
+      → copyFrom t d ≡ foundByGeneration (view t)
+  unfolding view byGeneration
+  found-by-generation e f q = let own = rw (a, b, c) at e in rw (← own, f, q, a, b)

@@ -5,14 +5,14 @@ ghost use lib.Dec.{eqb};
 ghost use lib.ListN.{length, drop};
 ghost use Prim.Native.Nat.{_≤_};
 ghost use Rattle.layout.specs.Layout.{headSize};
+ghost use Rattle.layout.specs.Fields.{none, write, change};
 ghost use Rattle.layout.specs.Soundness.{sound};
 ghost use Rattle.layout.specs.View.{view};
 ghost use Rattle.rules.specs.Calls.{lay, openRead, openChange, poll, put, abandon, link, reach};
-ghost use Rattle.rules.specs.Rules.{first, readingOver, tests};
-ghost use Rattle.numbers.specs.Put.{HeardAt};
-use rounds::heard::Heard;
-use rounds::heard::hear;
+ghost use Rattle.rules.specs.Rules.{first, readingOver, spent, tests};
+use rounds::heard::is_heard;
 use rules::Reply;
+use table::copy::address;
 use table::copy::generation_at;
 use table::copy::version_at;
 use table::head::NO_ROUND;
@@ -27,6 +27,8 @@ use table::head::lay_length;
 use table::head::off_set;
 use table::head::polled;
 use table::head::stations;
+use table::newest::Station;
+use table::newest::search;
 
 pub const DONE: u64 = 0;
 
@@ -151,15 +153,15 @@ pub fn put_number(t: &[u8], s: u64, sort: u64) -> u64
     if quorum::is_member(off_set(t), s as usize) {
         return OFF_THE_BUS;
     }
-    let Heard::Copies(b, g) = hear(t, stations(t), item(t), polled(t)) else {
+    if !is_heard(t, stations(t), item(t), polled(t)) {
         return UNHEARD;
-    };
-    put_kind_number(t, sort, b, g)
+    }
+    put_kind_number(t, sort)
 }
 
-// The last tests of a put in a heard round, by the round's kind; the newest copies start at b, by version, and at g, by generation.
-fn put_kind_number(t: &[u8], sort: u64, b: usize, g: usize) -> u64
-    requires { ⌜ HeardAt (now t) b g ⌝ }
+// The last tests of a put, by the round's kind.
+fn put_kind_number(t: &[u8], sort: u64) -> u64
+    requires { ⌜ (sound (now t) ≡ true) × (view (now t) .round .kind ≡ none → ⊥) ⌝ }
     ensures { λ r. ⌜ r ≡ first (drop 4 (tests (view (now (t .entry))) (put 0 sort))) ⌝ }
 {
     // Lent on, so that the compiler hands address and length over in registers.
@@ -172,17 +174,45 @@ fn put_kind_number(t: &[u8], sort: u64, b: usize, g: usize) -> u64
         if sort == CONFIGURATION {
             return WRONG_PUT;
         }
-        if version_at(t, b).is_last() {
+        if version_spent(t) {
             return SPENT;
         }
         return DONE;
     }
     if sort == CONFIGURATION {
-        if generation_at(t, g).is_last() {
+        if generation_spent(t) {
             return SPENT;
         }
     }
     DONE
+}
+
+// Whether the version that the round found is the last.
+fn version_spent(t: &[u8]) -> bool
+    requires { ⌜ sound (now t) ≡ true ⌝ }
+    ensures { λ r. ⌜ r ≡ spent (view (now (t .entry))) write ⌝ }
+{
+    let n = stations(t);
+    let i = item(t);
+    let newest = search(t, n, i, polled(t)).by_version;
+    let Station::At(b) = newest else {
+        return false;
+    };
+    version_at(t, address(n, i, b)).is_last()
+}
+
+// Whether the generation that the round found is the last.
+fn generation_spent(t: &[u8]) -> bool
+    requires { ⌜ sound (now t) ≡ true ⌝ }
+    ensures { λ r. ⌜ r ≡ spent (view (now (t .entry))) change ⌝ }
+{
+    let n = stations(t);
+    let i = item(t);
+    let newest = search(t, n, i, polled(t)).by_generation;
+    let Station::At(g) = newest else {
+        return false;
+    };
+    generation_at(t, address(n, i, g)).is_last()
 }
 
 pub fn abandon_number(t: &[u8]) -> u64

@@ -10,7 +10,7 @@ use Rattle.layout.specs.View.{view}
 use Rattle.rules.specs.Calls.{Call, isLay}
 use Rattle.rules.specs.declared.Reply.{Reply}
 use Rattle.rules.proofs.Judged.{unsound-number}
-use Rattle.calls.proofs.Replies.{plainReply, Answers, by-refusal}
+use Rattle.openings.proofs.Replies.{plainReply, Answers, by-refusal}
 
 module _ (t : List ℕ) {asked : Bool} (e : asked ≡ sound t) where
   pub unsound : (c : Call) → isLay c ≡ false → not asked ≡ true → {r : Reply} → r ≡ plainReply 1 → Answers t c r t

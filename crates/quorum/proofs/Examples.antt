@@ -7,7 +7,8 @@ use lib.ListN.{replicate}
 use Rattle.basics.specs.Tests.{all, allBelow, anyBelow}
 use Rattle.basics.specs.Bytes.{littleEndian}
 use Rattle.quorum.specs.Sets.{used, holds, shares, within}
-use Rattle.quorum.specs.Configurations.{setAt, readSet, writeSet, usedFirst, someUsed, allWithin, sharesAll, allShare, validity, valid, holdsPlace, holdsRead, holdsWrite, firstPlace, orElse, firstRead, firstWrite}
+use Rattle.quorum.specs.Configurations.{setAt, readSet, writeSet, usedFirst, someUsed, allWithin, sharesAll, allShare, validity, valid}
+use Rattle.quorum.specs.Configurations.{holdsPlace, holdsRead, holdsWrite, firstPlace, orElse, firstRead, firstWrite}
 use Rattle.quorum.specs.declared.Place.the-variants.{At, Nowhere}
 
 -- three sets of stations below 8 on a side
@@ -28,7 +29,8 @@ checks =
     ∷ valid 3 (majority ++ 0 ∷ []) ∷ holdsRead readOne 2 ∷ holdsWrite readOne 3 ∷ []
 
 checked : checks ≡ true ∷ true ∷ false ∷ false ∷ false ∷ false ∷ false ∷ false ∷ true ∷ false ∷ []
-unfolding checks all allBelow anyBelow littleEndian used holds shares within setAt readSet writeSet usedFirst someUsed allWithin sharesAll allShare validity valid holdsPlace holdsRead holdsWrite
+unfolding checks all allBelow anyBelow littleEndian used holds shares within setAt readSet writeSet usedFirst someUsed allWithin
+    sharesAll allShare validity valid holdsPlace holdsRead holdsWrite
 checked = refl
 
 places : firstRead majority 7 ∷ firstRead majority 6 ∷ firstWrite readOne 3 ∷ [] ≡ At 0 ∷ At 2 ∷ Nowhere ∷ []

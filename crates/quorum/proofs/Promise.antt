@@ -15,7 +15,8 @@ use Rattle.quorum.specs.Configurations.{setAt, readSet, writeSet, valid,
 use Rattle.quorum.specs.Promise.{Promise, _⊆_, LiesIn, FirstIn, Side}
 use Rattle.quorum.specs.declared.Place.the-variants.{At}
 use Rattle.basics.proofs.Tests.{clash, fails, same-test, any-below, below-any}
-use Rattle.quorum.proofs.Members.{member-empty, member-join, member-or, member-minus, member-remove, member-full, same-members, holds-member, member-holds, shares-members, used-member, within-members, full-all, within-join, within-unite, within-minus}
+use Rattle.quorum.proofs.Members.{member-empty, member-join, member-or, member-minus, member-remove, member-full, same-members, full-all}
+use Rattle.quorum.proofs.Members.{holds-member, member-holds, shares-members, used-member, within-members, within-join, within-unite, within-minus}
 use Rattle.quorum.proofs.Members.{lowest-member, below-lowest, remove-less}
 use Rattle.quorum.proofs.Validity.{valid-facts, facts-valid, first-used, place-lies, lies-place, first-found, first-nowhere}
 

@@ -12,10 +12,12 @@ use lib.Dec.{eqb}
 use borrow.Author.Tests.{leb-true, le-leb, eqb-true, eqb-false, eq-eqb, not-true}
 use Rattle.basics.specs.Tests.{anyBelow}
 use Rattle.quorum.specs.Sets.{used}
-use Rattle.quorum.specs.Configurations.{readSet, writeSet, usedFirst, someUsed, allWithin, sharesAll, allShare, validity, valid, holdsPlace, firstPlace, orElse}
+use Rattle.quorum.specs.Configurations.{readSet, writeSet, usedFirst, someUsed, allWithin, sharesAll, allShare, validity, valid}
+use Rattle.quorum.specs.Configurations.{holdsPlace, firstPlace, orElse}
 use Rattle.quorum.specs.Promise.{LiesIn, Side, Valid}
 use Rattle.quorum.specs.declared.Place.the-variants.{At, Nowhere}
-use Rattle.basics.proofs.Tests.{clash, by-cases, and-left, and-right, and-both, implies, implied, or-cases, all-true, true-all, all-below, below-all, any-below, below-any, below-suc}
+use Rattle.basics.proofs.Tests.{clash, by-cases, and-left, and-right, and-both, implies, implied, or-cases}
+use Rattle.basics.proofs.Tests.{all-true, true-all, all-below, below-all, any-below, below-any, below-suc}
 use Rattle.quorum.proofs.Members.{holds-member, member-holds, shares-members, within-members}
 
 or-swap : (a b : Bool) → (a || not b) ≡ true → b ≡ true → a ≡ true
@@ -83,7 +85,11 @@ facts-valid n c v =
                     r .2,
                     (
                       w .2,
-                      (below-all _ 8 (λ i l. implied _ _ (λ p. below-all _ 8 (λ j m. implied _ _ (λ q. shares-members (readSet c i) (writeSet c j) .1 (v .meet i j l m p q))))), tt),
+                      (
+                        below-all _ 8 (λ i l. implied _ _ (λ p. below-all _ 8 (λ j m. implied _ _ (λ q.
+                            shares-members (readSet c i) (writeSet c j) .1 (v .meet i j l m p q))))),
+                        tt,
+                      ),
                     ),
                   ),
                 ),

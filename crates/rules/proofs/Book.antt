@@ -103,7 +103,8 @@ module _ (v : State) (e : Entry) (k : KeptFor (v .n) (own v) e)
         writes = x .version;
         changes = rw (x .generation);
         kept = kept-change-commit (v .n) (own v) _ _ _ k (v .round .dataPuts) (v .round .configPuts) (stores (closing v changeRound) (v .round .target))
-            (x .value) (x .version) (rw (x .generation)) (rw (x .config) at (and-right (holdsWrite (v .round .target) (v .round .dataPuts)) _ q)) (and-left _ _ q);
+            (x .value) (x .version) (rw (x .generation))
+            (rw (x .config) at (and-right (holdsWrite (v .round .target) (v .round .dataPuts)) _ q)) (and-left _ _ q);
       }
 
 -- what the book's step does to its entries

@@ -1,7 +1,7 @@
 -- Each call's tests decide its needs, in their order; its numbers are listed and rise; it has figures or none, and is a lay or another.
 use mathlib.Core.Path.{_≡_, refl, sym, ap, _∙_}
 use mathlib.Core.Bool.{Bool, true, false, not, _&&_, _||_}
-use mathlib.Core.List.{[], _∷_}
+use mathlib.Core.List.{List, [], _∷_}
 use mathlib.Core.Logic.{_↔_, _⊎_, inl, inr, ⊎-elim}
 use Prim.Native.Nat.{ℕ, _≤_, _<_}
 use native.Mathlib.Omega.{arith}
@@ -13,7 +13,7 @@ use Rattle.layout.specs.Layout.{listed}
 use Rattle.layout.proofs.Sizes.{sized}
 use Rattle.layout.specs.Fields.{Kind, none, read, write, change}
 use Rattle.layout.specs.View.{State, view, heard}
-use Rattle.rules.specs.Calls.{Call, lay, openRead, openWrite, openChange, poll, put, commit, abandon, link, reach, isLay, IsLay, of-lay, isConfigSort}
+use Rattle.rules.specs.Calls.{Call, lay, openRead, openWrite, openChange, poll, put, commit, abandon, link, reach, isLay, isConfigSort}
 use Rattle.rules.specs.Rules.{first, tests, refusals, numberOf, idle, wrongPut, spent, spentAtPut, written}
 use Rattle.rules.specs.Figures.{figuresOf, noFigures}
 use Rattle.rules.specs.Reply.{replyOf}
@@ -22,6 +22,10 @@ use Rattle.rules.specs.Demand2.{Found, Spent, Written}
 use Rattle.rules.specs.Needs.{Gets, Fails, numbers, Rise, RightPut, SpentAtPut, HeardRound, needs, Allowed, Numbers}
 use Rattle.rules.proofs.Chains.{Decides, Listed, first-fails, first-applies, gets, exactly, gets-zero, gets-listed, gets-fails, gets-lowest}
 use Rattle.rules.proofs.Quorums.{passes, negated, is-spent, is-written, heard-exactly, of-every, of-none, version-found, generation-found}
+
+-- a lay
+pub data IsLay : Call → Type 0 where
+  of-lay : {n m value : ℕ} {config : List ℕ} → IsLay (lay n m value config)
 
 -- ---- tests that fail, and the facts that they leave
 same : {A : Type 0} → A ↔ A
@@ -68,11 +72,11 @@ right-put write sort q = (λ e. ⊎-elim (λ h. h) (λ h. clash (eq-eqb sort 2 h
 right-put change sort q = (λ e. tt, λ h. refl)
 
 module _ (v : State) where
-  spent-put : (f : Found v) (k : Kind) (sort : ℕ) → (spentAtPut v k sort ≡ true) ↔ SpentAtPut v f k sort
-  spent-put f none sort = (λ e. clash e refl, λ z. absurd z)
-  spent-put f read sort = (λ e. clash e refl, λ z. absurd z)
-  spent-put f write sort = is-spent v f write
-  spent-put f change sort = (
+  spent-put : (f : Found v) (k : Kind) (sort : ℕ) → RightPut k sort → (spentAtPut v k sort ≡ true) ↔ SpentAtPut v f k sort
+  spent-put f none sort right = absurd right
+  spent-put f read sort right = absurd right
+  spent-put f write sort right = (λ e. (right, is-spent v f write .0 e), λ h. is-spent v f write .1 (h .1))
+  spent-put f change sort right = (
     λ e. (eqb-true sort 2 (and-left (isConfigSort sort) _ e), is-spent v f change .0 (and-right (isConfigSort sort) _ e)),
     λ h. and-both (isConfigSort sort) _ (eq-eqb sort 2 (h .0)) (is-spent v f change .1 (h .1)),
   )
@@ -158,7 +162,7 @@ module _ (v : State) where
                   refl,
                   passes _ (heard-exactly v),
                   λ h.
-                      (refl, right-put kind sort (q .1), λ _. (refl, of-none v h _ _ (λ f. spent-put f kind sort), λ _. tt)),
+                      (refl, right-put kind sort (q .1), λ right. (refl, of-none v h _ _ (λ f. spent-put f kind sort right), λ _. tt)),
                 ),
               ),
             ),

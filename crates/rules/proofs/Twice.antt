@@ -2,20 +2,23 @@
 use mathlib.Core.Path.{_≡_, refl, sym, ap, _∙_}
 use mathlib.Core.Bool.{Bool, true, false, cond}
 use mathlib.Core.List.{List, _++_}
-use Prim.Native.Nat.{ℕ, _≤_, _<_}
+use mathlib.Core.Logic.{_⊎_, inl, inr}
+use Prim.Native.Nat.{ℕ, _+_, _≤_, _<_}
 use native.Mathlib.Omega.{arith}
 use lib.Dec.{eqb}
 use lib.ListN.{length, length-append}
+use borrow.Author.Tests.{eqb-true}
+use Rattle.basics.specs.Bytes.{part, AreBytes}
 use Rattle.quorum.specs.Sets.{member, join}
 use Rattle.basics.proofs.Tests.{or-left, or-right, or-cases}
 use Rattle.quorum.proofs.Promise.{promise}
-use Rattle.layout.specs.Layout.{headSize, polledAt, dataPutsAt}
+use Rattle.layout.specs.Layout.{headSize, polledAt, dataPutsAt, configPutsAt}
 use Rattle.layout.specs.View.{view}
 use Rattle.layout.specs.Updates.{bytesOf, setPolled, setPuts}
-use Rattle.layout.proofs.Parts.{over-again, length-bytes}
+use Rattle.layout.proofs.Parts.{over-again, over-append, over-own, number-bytes, part-length, length-bytes}
 use Rattle.layout.proofs.Fields.{polled-round, puts-round}
 use Rattle.layout.proofs.Soundness.{sound-head}
-use Rattle.rules.specs.Calls.{Call, lay, poll, put, isData}
+use Rattle.rules.specs.Calls.{Call, lay, poll, put, isData, dataSort, configSort}
 use Rattle.rules.specs.Rules.{tests, refusals, numberOf}
 use Rattle.rules.specs.Figures.{figuresOf}
 use Rattle.rules.specs.After.{done}
@@ -110,6 +113,58 @@ module _ (t : List ℕ) (s sort : ℕ) (e : reply t (put s sort) .number ≡ 0) 
   unfolding done
   put-twice = rw (done-after t (put s sort) e) (settled (setPuts t d c) (put s sort) puts-again)
 
+-- ---- a station that was polled, a put that was made before
+join-member : (a s : ℕ) → s < 16 → member a s ≡ true → join a s ≡ a
+join-member a s l h =
+    promise .same-members (join a s) a
+    (λ i m. or-cases (member a i) (eqb i s) (sym (promise .member-join a i s l) ∙ m) (λ e. e) (λ e. rw (eqb-true i s e) h))
+    (λ i m. promise .member-join a i s l ∙ or-left (member a i) (eqb i s) m)
+
+module _ (t : List ℕ) (b : AreBytes t) where
+  own-polled : headSize ≤ length t → setPolled t (view t .round .polled) ≡ t
+  unfolding setPolled view
+  own-polled h = rw (number-bytes t polledAt 2 b (omega arith)) (over-own t polledAt 2 (omega arith))
+
+  own-puts : headSize ≤ length t → setPuts t (view t .round .dataPuts) (view t .round .configPuts) ≡ t
+  unfolding setPuts view
+  own-puts h =
+      let d = number-bytes t dataPutsAt 2 b (omega arith) in
+      let c = number-bytes t configPutsAt 2 b (omega arith) in
+      let x = part-length t dataPutsAt 2 (omega arith) in
+      let y = part-length t configPutsAt 2 (omega arith) in
+      let fits : dataPutsAt + length (part t dataPutsAt 2 ++ part t configPutsAt 2) ≤ length t = rw (length-append, x, y) (omega arith) in
+      rw (d, c) (over-append t dataPutsAt (part t dataPutsAt 2) (part t configPutsAt 2) fits
+      ∙ rw (x, over-own t dataPutsAt 2 (omega arith)) (over-own t configPutsAt 2 (omega arith)))
+
+  polled-already : (s : ℕ) → member (view t .round .polled) s ≡ true → after t (poll s) ≡ t
+  unfolding done needs view
+  polled-already s m =
+      by-number (λ (u : List ℕ). u ≡ t) t (poll s)
+      (λ e. let f = done-law t (poll s) e .isSound .small in
+      let l = done-allowed t (poll s) e .1 .0 in
+      ap (setPolled t) (join-member (view t .round .polled) s (omega arith) m) ∙ own-polled (poll-head t s e)) refl
+
+  put-already : (s sort : ℕ) → (sort ≡ dataSort → member (view t .round .dataPuts) s ≡ true)
+      → (sort ≡ configSort → member (view t .round .configPuts) s ≡ true) → after t (put s sort) ≡ t
+  unfolding done needs view
+  put-already s sort md mc =
+      by-number (λ (u : List ℕ). u ≡ t) t (put s sort)
+      (λ e. let f = done-law t (put s sort) e .isSound .small in
+      let a = done-allowed t (put s sort) e .1 .0 in
+      let l = a .0 in
+      joined (omega arith) (a .1) ∙ own-puts (put-head t s sort e)) refl
+    where
+      d : ℕ
+      d = view t .round .dataPuts
+
+      c : ℕ
+      c = view t .round .configPuts
+
+      joined : s < 16 → (sort ≡ dataSort) ⊎ (sort ≡ configSort)
+          → setPuts t (cond (isData sort) (join d s) d) (cond (isData sort) c (join c s)) ≡ setPuts t d c
+      joined l (inl e) = rw (e, join-member d s l (md e))
+      joined l (inr e) = rw (e, join-member c s l (mc e))
+
 -- ---- lay
 module _ (t u : List ℕ) (n m value : ℕ) (config : List ℕ) (e : length t ≡ length u) where
   lay-reply : reply t (lay n m value config) ≡ reply u (lay n m value config)
@@ -121,4 +176,12 @@ module _ (t u : List ℕ) (n m value : ℕ) (config : List ℕ) (e : length t �
   lay-after z = let c = lay n m value config in done-after t c z ∙ sym (done-after u c (rw lay-reply at z))
 
 pub twice : Twice
-twice = record { poll-twice = poll-twice; put-twice = put-twice; lay-reply = lay-reply; lay-after = lay-after }
+twice =
+    record {
+      poll-twice = poll-twice;
+      put-twice = put-twice;
+      polled-already = λ t s b. polled-already t b s;
+      put-already = λ t s sort b. put-already t b s sort;
+      lay-reply = lay-reply;
+      lay-after = lay-after;
+    }

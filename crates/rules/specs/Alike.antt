@@ -1,5 +1,5 @@
--- The reply and the state after a call hang on the state alone, and of the copies only on those that there are: two tables that look alike get
--- the same replies to every list of calls, and look alike after it.
+-- The reply and the state after a call hang on the state alone, and of the copies only on those that there are: two tables of bytes that look
+-- alike get the same replies to every list of calls that can be passed, and look alike after it.
 use mathlib.Core.Path.{_≡_}
 use mathlib.Core.Bool.{true}
 use mathlib.Core.List.{List}

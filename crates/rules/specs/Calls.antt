@@ -34,9 +34,6 @@ layOr f a (reach i) = a
 abbrev pub isLay : Call → Bool
 isLay = layOr (λ n m value config. true) false
 
-pub data IsLay : Call → Type 0 where
-  of-lay : {n m value : ℕ} {config : List ℕ} → IsLay (lay n m value config)
-
 -- "Put (station, 1 data or 2 configuration)"
 abbrev pub dataSort : ℕ
 dataSort = 1

@@ -28,10 +28,10 @@ pub record Agrees (before after : Book) (r : Reply) : Type 0 where
 -- the claim over a list of calls and the replies to them, from a book on: the book is fed each call and the number of its reply
 abbrev pub OneCopy : Book → List Call → List Reply → Type 0
 OneCopy b [] [] = Unit {0}
-OneCopy b [] (r ∷ replies) = ⊥
+OneCopy b [] (r ∷ rest) = ⊥
 OneCopy b (c ∷ calls) [] = ⊥
-OneCopy b (c ∷ calls) (r ∷ replies) =
-    (c ≡ commit → r .number ≡ 0 → Agrees b (fed b c (r .number)) r) × OneCopy (fed b c (r .number)) calls replies
+OneCopy b (c ∷ calls) (r ∷ rest) =
+    (c ≡ commit → r .number ≡ 0 → Agrees b (fed b c (r .number)) r) × OneCopy (fed b c (r .number)) calls rest
 
 -- "The list of demand 3 begins with a lay that replies 0, on bytes of any content. After it come the ten calls above in any order,
 -- with any arguments, refused ones and further lays included." Of the arguments only values and configurations are bounded, by what a

@@ -1,6 +1,7 @@
 -- What each call needs, by facts about the state, and the number that it gets where one of them fails (document 01, the table of numbers).
--- Nothing here is a test of the store: stations, quorums and counters by quantifiers, as in Demand2.antt. So a call is refused only for one of
--- its reasons, which of document 01's "Versions that fail" rules out "every call refused", and with the lowest number that applies.
+-- Stations, quorums and counters are by quantifiers, as in Demand2.antt; of the store's own tests only soundness and a lay's length are named, and
+-- SoundFacts.antt of the layout has the facts of the one, `fits` of its View.antt the other. So a call is refused only for one of its reasons, which of
+-- document 01's "Versions that fail" rules out "every call refused", and with the lowest number that applies.
 use mathlib.Core.Path.{_≡_}
 use mathlib.Core.Bool.{true, false}
 use mathlib.Core.List.{List, [], _∷_}
@@ -47,7 +48,7 @@ Rise low (k ∷ rest) = (low < k) × Rise k rest
 abbrev pub HeardRound : State → Type 0
 HeardRound v = (f : Found v) × Heard v f
 
--- 9: "a put in a read, a configuration put in a write" is wrong
+-- 9: "a put in a read, a configuration put in a write" is wrong. With no round this is never asked, here and below: idle comes first.
 abbrev pub RightPut : Kind → ℕ → Type 0
 RightPut none sort = ⊥
 RightPut read sort = ⊥
@@ -59,10 +60,10 @@ RightPut change sort = Unit {0}
 abbrev pub SpentAtPut : (v : State) → Found v → Kind → ℕ → Type 0
 SpentAtPut v f none sort = ⊥
 SpentAtPut v f read sort = ⊥
-SpentAtPut v f write sort = Spent v f write
+SpentAtPut v f write sort = (sort ≡ dataSort) × Spent v f write
 SpentAtPut v f change sort = (sort ≡ configSort) × Spent v f change
 
--- what each call needs; "lay tests 2, then 1, then 3"
+-- What each call needs; "lay tests 2, then 1, then 3". With nothing polled nothing is found, and 10 and 11 are not asked: 8 comes first.
 unfoldable pub needs : State → Call → Needs
 needs v (lay n m value config) = (2, (1 ≤ n) × (n ≤ 16) × (1 ≤ m) × (m ≤ 32)) ∷ (1, v .fits n m ≡ true) ∷ (3, Valid n config) ∷ []
 needs v (openRead i) = (1, v .isSound ≡ true) ∷ (2, i < v .m) ∷ (4, v .round .kind ≡ none) ∷ []

@@ -8,7 +8,8 @@ use Rattle.quorum.specs.Configurations.{valid, holdsWrite}
 use Rattle.layout.specs.Layout.{listed}
 use Rattle.layout.specs.Fields.{Kind, none, read, write, change}
 use Rattle.layout.specs.View.{State, foundByVersion, foundByGeneration, heard}
-use Rattle.rules.specs.Calls.{Call, lay, openRead, openWrite, openChange, poll, put, commit, abandon, link, reach, isLay, isData, isConfigSort, isOff, isOn}
+use Rattle.rules.specs.Calls.{Call, lay, openRead, openWrite, openChange, poll, put, commit, abandon, link, reach}
+use Rattle.rules.specs.Calls.{isLay, isData, isConfigSort, isOff, isOn}
 
 -- tests with their numbers, in the order in which they are made; the first that applies gives the number, 0 is done
 abbrev pub Chain : Type 0

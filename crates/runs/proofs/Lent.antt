@@ -12,9 +12,9 @@ use Rattle.basics.specs.Bytes.{AreBytes}
 use Rattle.layout.specs.Layout.{layLength}
 use Rattle.layout.specs.View.{view}
 use Rattle.layout.proofs.Parts.{bytes-zeros}
-use Rattle.rules.specs.Calls.{Call, lay, isLay, IsLay, of-lay}
+use Rattle.rules.specs.Calls.{Call, lay, isLay}
 use Rattle.rules.specs.Reply.{reply, after}
-use Rattle.rules.proofs.Judged.{judged}
+use Rattle.rules.proofs.Judged.{IsLay, of-lay, judged}
 use Rattle.rules.proofs.Demand1.{refusal-changes-nothing}
 use Rattle.runs.specs.Session.{lent, tableOr}
 

@@ -12,7 +12,7 @@ use Rattle.runs.specs.Session.{replyTo, tableAfter, printed}
 use Rattle.runs.specs.Lines.{inFront, linesOf}
 use Rattle.runs.specs.Run.{answers, run}
 use Rattle.runs.specs.Pieces.{enough, clip, InHand, start, next, printedAt, afterPiece, printedBy}
-use Rattle.runs.specs.Pieces.{printedLast, tableLast, afterLast, tableAfterAll, inPieces, joined}
+use Rattle.runs.specs.Pieces.{printedLast, tableLast, afterLast, tableAfterAll, inPieces, afterPieces, joined}
 use Rattle.runs.specs.Claims.{NoEnd}
 use Rattle.runs.proofs.Clipped.{call-byte-clip, call-clip}
 
@@ -144,9 +144,9 @@ table-lines t line (b ∷ input) =
     (λ _ e. rw (next-line t line b e, front-line line (linesOf input)) ended)
     (λ _ e. rw (next-more t line b e, ← front-more line b (linesOf input)) more) refl
 
-pub table-at-the-end : (input : List ℕ) → afterLast (afterPiece start input) .table ≡ tableAfterAll [] (linesOf input)
+table-whole : (input : List ℕ) → afterLast (afterPiece start input) .table ≡ tableAfterAll [] (linesOf input)
 unfolding front clip
-table-at-the-end input = table-lines [] [] input
+table-whole input = table-lines [] [] input
 
 -- ---- pieces
 pub after-append : (s : InHand) (a b : List ℕ) → afterPiece s (a ++ b) ≡ afterPiece (afterPiece s a) b
@@ -169,3 +169,11 @@ pieces-whole s (piece ∷ pieces) =
 
 pub in-pieces : (pieces : List (List ℕ)) → inPieces start pieces ≡ run (joined pieces)
 in-pieces pieces = pieces-whole start pieces ∙ run-whole (joined pieces)
+
+after-pieces : (s : InHand) (pieces : List (List ℕ)) → afterPieces s pieces ≡ afterPiece s (joined pieces)
+unfolding afterPieces joined afterPiece
+after-pieces s [] = refl
+after-pieces s (piece ∷ pieces) = after-pieces (afterPiece s piece) pieces ∙ sym (after-append s piece (joined pieces))
+
+pub table-at-the-end : (pieces : List (List ℕ)) → afterLast (afterPieces start pieces) .table ≡ tableAfterAll [] (linesOf (joined pieces))
+table-at-the-end pieces = rw (after-pieces start pieces) (table-whole (joined pieces))

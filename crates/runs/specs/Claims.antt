@@ -18,8 +18,7 @@ use Rattle.replies.specs.ReplyLine.{lineEnd, replyLine, replyLineSize, Showable
 use Rattle.runs.specs.Session.{lent, replyTo, tableAfter, printed}
 use Rattle.runs.specs.Lines.{linesOf}
 use Rattle.runs.specs.Run.{run}
-use Rattle.replies.specs.ReplyLine.{replyLineSize}
-use Rattle.runs.specs.Pieces.{clip, start, afterPiece, afterLast, tableAfterAll, inPieces, joined}
+use Rattle.runs.specs.Pieces.{clip, start, afterPieces, afterLast, tableAfterAll, inPieces, joined}
 use Rattle.runs.specs.Calls.{callsIn, repliesIn, callsOn, repliesOn, NoLayDone}
 
 -- no byte of a line ends it
@@ -41,7 +40,8 @@ pub record Claims : Type 0 where
   -- every call whose arguments fit has a frame, which stands for it; and a line that stands for a call is its frame
   pub has-frame : (c : Call) → Framable c → callOf (hexOf (frameOf c)) ≡ some c
   pub is-its-frame : (line : List ℕ) (c : Call) → callOf line ≡ some c → (line ≡ hexOf (frameOf c)) × Framable c
-  -- ---- reply lines: 52 characters and the line end; the call byte, the number and the figures are read back from them
+  -- ---- reply lines: 53 characters, by their definition two digits a byte and the line end; the call byte, the number and the figures are
+  -- read back from them
   pub reply-length : (call : ℕ) (r : Reply) → length (replyLine call r) ≡ replyLineSize
   pub reply-read-back : (call : ℕ) (r : Reply) → call < 256 → Showable r → Shows (bytesIn (replyLine call r)) call r
   -- ---- every line of a session on bytes prints what `replyTo` replies, each figure whole, and leaves bytes
@@ -51,10 +51,10 @@ pub record Claims : Type 0 where
   pub cut-line : (t line : List ℕ) → (printed t (clip line) ≡ printed t line) × (tableAfter t (clip line) ≡ tableAfter t line)
   -- ---- no line is lost or split however the input is cut into reads
   pub in-pieces : (pieces : List (List ℕ)) → inPieces start pieces ≡ run (joined pieces)
-  -- the table in hand at the end of input is the one after its lines
-  pub table-at-the-end : (input : List ℕ) → afterLast (afterPiece start input) .table ≡ tableAfterAll [] (linesOf input)
-  -- ---- demand 3 of a run: every commit line that replies 0, in any input, shows the figures of the book that is fed the calls of
-  -- the frames with the numbers printed, whatever the book held at first
+  -- and the table in hand at the end is the one after the lines of the whole
+  pub table-at-the-end : (pieces : List (List ℕ)) → afterLast (afterPieces start pieces) .table ≡ tableAfterAll [] (linesOf (joined pieces))
+  -- ---- demand 3 of a run: every commit frame that gets 0, in any input, gets the figures of the book that is fed the calls of the frames
+  -- with the numbers of their replies, whatever the book held at first. What is printed are these replies (`prints-the-reply`).
   pub shows-the-book : (input : List ℕ) (b : Book) → OneCopy b (callsIn (linesOf input)) (repliesIn [] (linesOf input))
   -- a lay that replies 0 begins a stretch of the session that is a list of demand 3, and the session replies as that list does
   pub list-of-demand-3 : (t line : List ℕ) (n m value : ℕ) (config : List ℕ) (lines : List (List ℕ))

@@ -1,15 +1,16 @@
 -- A run by pieces of input: what a runner keeps between two reads, and what it prints at each.
 use mathlib.Core.Bool.{cond}
 use mathlib.Core.List.{List, [], _∷_, _++_}
-use Prim.Native.Nat.{ℕ}
+use Prim.Native.Nat.{ℕ, _+_, _*_}
 use lib.Dec.{eqb}
 use lib.ListN.{take}
+use Rattle.dispatch.specs.Dispatch.{longest}
 use Rattle.replies.specs.ReplyLine.{lineEnd}
 use Rattle.runs.specs.Session.{tableAfter, printed}
 
 -- The longest frame has 86 characters: of a longer line 87 bytes tell that it is none, and the rest is not kept.
 abbrev pub enough : ℕ
-enough = 87
+enough = 2 * longest + 1
 
 unfoldable pub clip : List ℕ → List ℕ
 clip line = take enough line
@@ -63,6 +64,10 @@ tableAfterAll t (line ∷ lines) = tableAfterAll (tableAfter t line) lines
 unfoldable pub inPieces : InHand → List (List ℕ) → List ℕ
 inPieces s [] = printedLast (s .table) (s .line)
 inPieces s (piece ∷ pieces) = printedBy s piece ++ inPieces (afterPiece s piece) pieces
+
+unfoldable pub afterPieces : InHand → List (List ℕ) → InHand
+afterPieces s [] = s
+afterPieces s (piece ∷ pieces) = afterPieces (afterPiece s piece) pieces
 
 unfoldable pub joined : List (List ℕ) → List ℕ
 joined [] = []

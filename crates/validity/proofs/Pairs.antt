@@ -155,7 +155,9 @@ member-outside n i l =
     ∙ ap (λ b. ltb i 16 && not b) (promise .member-full n i l)
   where
     inner : bitAnd 65535 (full n) ≡ full n
-    inner = eqb-true _ _ (promise .holds-members 65535 (full n) .1 (λ j m. let h = ltb-true j n (sym (promise .member-full n j l) ∙ m) in every-station j (omega arith)))
+    inner =
+        eqb-true _ _ (promise .holds-members 65535 (full n) .1
+        (λ j m. let h = ltb-true j n (sym (promise .member-full n j l) ∙ m) in every-station j (omega arith)))
 
 -- a set of 16 bits has none of them exactly if it lies within n
 module _ (n s : ℕ) (l : n ≤ 16) (h : s < 65536) where

@@ -8,7 +8,7 @@ ghost use Rattle.layout.specs.Layout.{copiesAt, copySize, configSize, tableLeng
 ghost use Rattle.layout.specs.Fields.{newCopy};
 ghost use Rattle.table.specs.Search.{InTable};
 ghost use Rattle.layout.specs.Updates.{putData, putConfig, over, copyBytes, repeated, laid, putCopies, closed};
-ghost use Rattle.rounds.specs.Round.{asRound};
+ghost use Rattle.rounds.specs.Round.{asRound, roundIn};
 use rounds::round::Round;
 use table::copy::COPIES_AT;
 use table::copy::COPY_SIZE;
@@ -21,6 +21,7 @@ use table::head::HEAD_SIZE;
 use table::head::NO_ROUND;
 use table::head::OFF_AT;
 use table::head::STATIONS_AT;
+use table::head::TARGET_AT;
 use table::head::set_round;
 use table::number::CONFIG_SIZE;
 use table::number::config_bytes_at;
@@ -61,11 +62,11 @@ fn put_each(
     version: Version,
     generation: Generation,
 )
-    requires { ⌜ InTable (now t) n (round .item) ⌝ }
+    requires { ⌜ InTable (now t) n (round .item) × (round ≡ roundIn (now t)) ⌝ }
     ensures { λ _. ⌜ now (t .exit) ≡ putCopies (now (t .entry)) n (asRound round) (newCopy (version .0) value (generation .0) (round .target)) n ⌝ }
 {
     let i = round.item;
-    let target = round.target;
+    let target = config_bytes_at(t, TARGET_AT);
     for s in 0..n {
         let at = address(n, i, s);
         put_data_if(t, at, quorum::is_member(round.data_puts, s), version, value);
@@ -88,7 +89,7 @@ pub fn finish(
     version: Version,
     generation: Generation,
 )
-    requires { ⌜ InTable (now t) n (round .item) ⌝ }
+    requires { ⌜ InTable (now t) n (round .item) × (round ≡ roundIn (now t)) ⌝ }
     ensures { λ _. ⌜ now (t .exit) ≡ closed (putCopies (now (t .entry)) n (asRound round) (newCopy (version .0) value (generation .0) (round .target)) n) ⌝ }
 {
     if (round.data_puts != 0) | (round.config_puts != 0) {

@@ -2,7 +2,7 @@ use mathlib.Core.Path.{refl, _∙_}
 use Rattle.layout.specs.View.{view}
 use Rattle.layout.proofs.Soundness.{sound-head, is-sound}
 use Rattle.rounds.proofs.Hearing.{items-in-table}
-use Rattle.calls.proofs.Replies.{commit-refused, commit-finished}
+use Rattle.calls.proofs.Committing.{commit-refused, commit-finished}
 use borrow.Author.Needs.{needs}
 use Rattle.calls.proofs.commit_on.Statement.{statement}
 use Rattle.calls.proofs.commit_on.Tie as tie
@@ -28,7 +28,7 @@ unfolding view
 finish-requires c κs =
     let round = c .before .before .before .before .before .before .before in
     let s = round .before .before .before .pre in
-    rw (c .stations .ensures, round .of .ensures) (items-in-table _ s _ (is-sound _ s .item))
+    (rw (c .stations .ensures, round .of .ensures) (items-in-table _ s _ (is-sound _ s .item)), round .of .ensures)
 
 same-length-2 : tie.Need-same-length-2
 same-length-2 c = search needs

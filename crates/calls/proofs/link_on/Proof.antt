@@ -5,7 +5,7 @@ use Rattle.layout.proofs.Soundness.{sound-head}
 use Rattle.rules.specs.Calls.{link}
 use Rattle.rules.specs.Figures.{figuresOf}
 use Rattle.rules.specs.After.{done}
-use Rattle.calls.proofs.Replies.{refused, plain-finished}
+use Rattle.openings.proofs.Replies.{refused, plain-finished}
 use borrow.Author.Needs.{needs}
 use Rattle.calls.proofs.link_on.Statement.{statement}
 use Rattle.calls.proofs.link_on.Tie as tie

@@ -9,7 +9,7 @@ use Rattle.rounds.specs.Round.{asRound}
 use Rattle.numbers.proofs.Refusals.{own-copies}
 use Rattle.rules.specs.Calls.{poll}
 use Rattle.rules.specs.After.{done}
-use Rattle.calls.proofs.Replies.{refused, finished}
+use Rattle.openings.proofs.Replies.{refused, finished}
 use Rattle.calls.proofs.Figures.{poll-figure}
 use Rattle.calls.proofs.poll_on.Statement.{statement}
 use Rattle.calls.proofs.poll_on.Tie as tie
@@ -52,16 +52,16 @@ poll-requires c κs = search needs
 stations-requires : tie.Need-stations-requires
 stations-requires c κs = sound-head _ (at-poll (c .before) .pre)
 
-hear-requires : tie.Need-hear-requires
-hear-requires c κs =
+is-heard-requires : tie.Need-is-heard-requires
+is-heard-requires c κs =
     let polled = c .before .before in
     own-copies _ (at-poll polled .pre) (c .stations .ensures) (ap (λ r. r .item) (round polled))
 
 set-polled-requires : tie.Need-set-polled-requires
 set-polled-requires c κs = sound-head _ (at-poll (c .before .before .before .before) .pre)
 
-heard-figure-requires : tie.Need-heard-figure-requires
-heard-figure-requires c κs = search needs
+one-if-requires : tie.Need-one-if-requires
+one-if-requires c κs = search needs
 
 same-length-2 : tie.Need-same-length-2
 same-length-2 c = search needs
@@ -76,7 +76,7 @@ returns-2 c =
     let asked = allowed .before in
     let item = ap (λ r. r .item) (round polled) in
     let set = ap (λ r. r .polled) (round polled) in
-    let figure = poll-figure _ _ (heard .hear .result) (heard .before .stations .ensures) item set (heard .hear .ensures) (c .heard-figure .ensures) in
+    let figure = poll-figure _ _ (heard .before .stations .ensures) item set (heard .is-heard .ensures) (c .one-if .ensures) in
     finished _ (at-poll polled .pre) (poll _) refl (asked .poll-number .ensures) (allowed .if1 .left) figure
     (written .set-polled .ensures ∙ ap (setPolled _) set)
 
@@ -91,8 +91,8 @@ poll-on-spec =
     of-requires
     poll-requires
     stations-requires
-    hear-requires
+    is-heard-requires
     set-polled-requires
-    heard-figure-requires
+    one-if-requires
     same-length-2
     returns-2)

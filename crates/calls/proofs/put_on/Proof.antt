@@ -7,7 +7,7 @@ use Rattle.rounds.specs.Round.{asRound}
 use Rattle.rules.specs.Calls.{put, isData}
 use Rattle.rules.specs.Figures.{figuresOf}
 use Rattle.rules.specs.After.{done, putsOf}
-use Rattle.calls.proofs.Replies.{refused, plain-finished}
+use Rattle.openings.proofs.Replies.{refused, plain-finished}
 use Rattle.calls.proofs.put_on.Statement.{statement}
 use Rattle.calls.proofs.put_on.Tie as tie
 

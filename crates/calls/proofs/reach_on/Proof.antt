@@ -4,7 +4,7 @@ use Rattle.layout.specs.View.{view}
 use Rattle.rules.specs.Calls.{reach}
 use Rattle.rules.specs.Figures.{figuresOf}
 use Rattle.rules.specs.Needs.{needs as needed}
-use Rattle.calls.proofs.Replies.{refused, finished, shown}
+use Rattle.openings.proofs.Replies.{refused, finished, shown}
 use Rattle.calls.proofs.Figures.{figureReply}
 use Rattle.calls.proofs.reach_on.Statement.{statement}
 use Rattle.calls.proofs.reach_on.Tie as tie

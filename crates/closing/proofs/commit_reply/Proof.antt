@@ -5,8 +5,9 @@ use Rattle.layout.specs.Layout.{kindAt}
 use Rattle.layout.specs.View.{Table, view}
 use Rattle.layout.proofs.Soundness.{sound-head}
 use Rattle.rules.proofs.Judged.{a-round}
-use Rattle.numbers.specs.Put.{HeardAt}
-use Rattle.numbers.proofs.Refusals.{is-change, is-idle, is-kind, is-open, own-copies, OwnSays, own-says, not-heard, heard-at}
+use Rattle.closing.specs.Closing.{HeardAt}
+use Rattle.numbers.proofs.Refusals.{is-change, is-idle, is-kind, is-open, own-copies}
+use Rattle.closing.proofs.Hears.{OwnSays, own-says, not-heard, heard-at}
 use Rattle.closing.proofs.Answers.{closes, idle-reply, unheard-reply}
 use Rattle.closing.proofs.commit_reply.Statement.{statement}
 use Rattle.closing.proofs.commit_reply.Tie as tie

@@ -1,4 +1,4 @@
-use mathlib.Core.Path.{_≡_, sym, ap, _∙_}
+use mathlib.Core.Path.{_≡_, sym, _∙_}
 use mathlib.Core.Bool.{Bool, cond}
 use Prim.Native.Nat.{ℕ}
 use lib.ListN.{drop}
@@ -6,9 +6,10 @@ use borrow.Author.Needs.{needs}
 use borrow.Author.Tests.{eq-eqb, ne-eqb}
 use Rattle.layout.specs.Fields.{change}
 use Rattle.layout.specs.View.{view}
+use Rattle.layout.proofs.Soundness.{sound-head}
 use Rattle.rules.specs.Calls.{put}
 use Rattle.rules.specs.Rules.{first, tests}
-use Rattle.numbers.proofs.Refusals.{is-kind, is-change, last-test}
+use Rattle.numbers.proofs.Refusals.{is-kind, is-change}
 use Rattle.numbers.proofs.put_kind_number.Statement.{statement}
 use Rattle.numbers.proofs.put_kind_number.Tie as tie
 
@@ -20,40 +21,30 @@ abbrev last-tests : tie.Start → ℕ
 last-tests c = first (drop 4 (tests (view ((c .args .t) .now)) (put 0 (c .args .sort))))
 
 -- in a write, a data put: by the test of the version found
-data-put : (c : tie.After-is-last) {r : Bool} → c .is-last .result ≡ r → last-tests (called (c .before .before .before .before .before)) ≡ cond r 10 0
+data-put : (c : tie.After-version-spent) {r : Bool} → c .version-spent .result ≡ r → last-tests (called (c .before .before .before .before)) ≡ cond r 10 0
 unfolding tests first view
 data-put c e =
-    let sort = c .before .before in
+    let sort = c .before in
     let write = sort .before in
     let kind = write .before .before in
-    let found = ap (λ y. y .version) (sym (called kind .pre .version)) in
-    rw (
-      is-kind 2 (kind .kind .ensures) (write .if2 .taken),
-      ne-eqb _ _ (sort .if3 .left),
-      last-test (c .is-last .ensures) (c .before .version-at .ensures ∙ found) e,
-    )
+    rw (is-kind 2 (kind .kind .ensures) (write .if2 .taken), ne-eqb _ _ (sort .if3 .left), sym (c .version-spent .ensures) ∙ e)
 
 -- what is neither a read nor a write is a change
 changes : (c : tie.Else2) → view ((called (c .before .before) .args .t) .now) .round .kind ≡ change
 unfolding view
 changes c =
-    let kind = c .before .before in is-change (kind .kind .ensures) (called kind .pre .isOpen) (c .before .if1 .left) (c .if2 .left)
+    let kind = c .before .before in is-change (kind .kind .ensures) (called kind .pre .1) (c .before .if1 .left) (c .if2 .left)
 
 -- in a change, a configuration put: by the test of the generation found
-config-put : (c : tie.After-is-last2) {r : Bool} → c .is-last2 .result ≡ r → last-tests (called (c .before .before .before .before .before)) ≡ cond r 10 0
+config-put : (c : tie.After-generation-spent) {r : Bool} → c .generation-spent .result ≡ r
+    → last-tests (called (c .before .before .before .before)) ≡ cond r 10 0
 unfolding tests first view
 config-put c e =
-    let sort = c .before .before in
-    let kind = sort .before .before .before in
-    let found = ap (λ y. y .generation) (sym (called kind .pre .generation)) in
-    rw (
-      changes (sort .before),
-      eq-eqb _ _ (sort .if5 .taken),
-      last-test (c .is-last2 .ensures) (c .before .generation-at .ensures ∙ found) e,
-    )
+    let sort = c .before in
+    rw (changes (sort .before), eq-eqb _ _ (sort .if5 .taken), sym (c .generation-spent .ensures) ∙ e)
 
 kind-requires : tie.Need-kind-requires
-kind-requires c κs = search needs
+kind-requires c κs = sound-head _ (c .before .pre .0)
 
 returns : tie.Need-returns
 unfolding tests first view
@@ -65,11 +56,8 @@ returns-2 c =
     let write = c .before in
     rw (is-kind 2 (write .before .before .kind .ensures) (write .if2 .taken), eq-eqb _ _ (c .if3 .taken))
 
-version-at-requires : tie.Need-version-at-requires
-version-at-requires c κs = search needs
-
-is-last-requires : tie.Need-is-last-requires
-is-last-requires c κs = search needs
+version-spent-requires : tie.Need-version-spent-requires
+version-spent-requires c κs = called (c .before .before .before) .pre .0
 
 returns-3 : tie.Need-returns-3
 returns-3 c = sym (data-put (c .before) (c .if4 .taken))
@@ -77,11 +65,8 @@ returns-3 c = sym (data-put (c .before) (c .if4 .taken))
 returns-4 : tie.Need-returns-4
 returns-4 c = sym (data-put (c .before) (c .if4 .left))
 
-generation-at-requires : tie.Need-generation-at-requires
-generation-at-requires c κs = search needs
-
-is-last-requires-2 : tie.Need-is-last-requires-2
-is-last-requires-2 c κs = search needs
+generation-spent-requires : tie.Need-generation-spent-requires
+generation-spent-requires c κs = called (c .before .before .before) .pre .0
 
 returns-5 : tie.Need-returns-5
 returns-5 c = sym (config-put (c .before) (c .if6 .taken))
@@ -100,12 +85,10 @@ put-kind-number-spec =
     kind-requires
     returns
     returns-2
-    version-at-requires
-    is-last-requires
+    version-spent-requires
     returns-3
     returns-4
-    generation-at-requires
-    is-last-requires-2
+    generation-spent-requires
     returns-5
     returns-6
     returns-7)

@@ -2,13 +2,13 @@ use mathlib.Core.Path.{_≡_, sym, _∙_}
 use Prim.Native.Nat.{ℕ}
 use lib.ListN.{drop}
 use borrow.Author.Needs.{needs}
-use Rattle.layout.specs.View.{Table, view}
+use borrow.Author.Tests.{not-true, not-false}
+use Rattle.layout.specs.View.{Table, view, heard}
 use Rattle.layout.proofs.Soundness.{sound-head}
 use Rattle.rules.specs.Calls.{put}
 use Rattle.rules.specs.Rules.{first, tests}
 use Rattle.rules.proofs.Judged.{a-round}
-use Rattle.numbers.specs.Put.{HeardAt}
-use Rattle.numbers.proofs.Refusals.{is-below, is-idle, is-open, member-test, not-below, turned, own-copies, OwnSays, own-says, not-heard, heard-at}
+use Rattle.numbers.proofs.Refusals.{is-below, is-idle, is-open, member-test, not-below, turned, own-copies, own-heard}
 use Rattle.numbers.proofs.put_number.Statement.{statement}
 use Rattle.numbers.proofs.put_number.Tie as tie
 
@@ -44,26 +44,18 @@ past-off c = rw (member-test _ (c .before .before .off-set .ensures) (c .before 
 past-three : (c : tie.Else4) → past 0 (at-off c) ≡ past 3 (at-off c)
 past-three c = let kind = c .before .before .before in past-sort (kind .before .before) ∙ past-kind kind ∙ past-off c
 
--- the answer of `hear`, and the copies that a heard round has found
-abbrev at-hear : tie.After-hear → tie.Else4
-at-hear c = c .before .before .before .before
+-- whether the round is heard
+abbrev at-heard : tie.After-is-heard → tie.Else4
+at-heard c = c .before .before .before .before
 
-abbrev table : tie.After-hear → Table
-table c = (at-off (at-hear c) .args .t) .now
+abbrev table : tie.After-is-heard → Table
+table c = (at-off (at-heard c) .args .t) .now
 
-answered : (c : tie.After-hear) → OwnSays (table c) (c .hear .result)
-answered c =
+is-round-heard : (c : tie.After-is-heard) → c .is-heard .result ≡ heard (view (table c))
+is-round-heard c =
     let polled = c .before in
     let item = polled .before in
-    own-says _ (c .hear .result) (item .before .stations2 .ensures) (item .item .ensures) (polled .polled .ensures) (c .hear .ensures)
-
-found : (c : tie.After-b) → HeardAt (table (c .before .before)) (c .b .given .0 .0) (c .b .given .0 .1 .0)
-unfolding view
-found c =
-    let hear = c .before .before in
-    let kind = at-hear hear .before .before .before in
-    let is-opened = a-round _ .0 (is-open (kind .before .kind .ensures) (kind .if3 .left)) in
-    heard-at _ (answered hear) (at-kind kind .pre) is-opened (c .b .given .1)
+    own-heard _ (item .before .stations2 .ensures) (item .item .ensures) (polled .polled .ensures) (c .is-heard .ensures)
 
 stations-requires : tie.Need-stations-requires
 stations-requires c κs = sound-head _ (c .before .pre)
@@ -112,32 +104,29 @@ item-requires c κs = sound-head _ (at-off (c .before) .pre)
 polled-requires : tie.Need-polled-requires
 polled-requires c κs = sound-head _ (at-off (c .before .before) .pre)
 
-hear-requires : tie.Need-hear-requires
-hear-requires c κs =
+is-heard-requires : tie.Need-is-heard-requires
+is-heard-requires c κs =
     let item = c .before in
     let stations = item .before in
     own-copies _ (at-off (stations .before) .pre) (stations .stations2 .ensures) (item .item .ensures)
 
-enum-known-b : tie.Need-enum-known-b
-enum-known-b c = search needs
-
-enum-told : tie.Need-enum-told
-enum-told c = search needs
-
 returns-5 : tie.Need-returns-5
 unfolding tests first
 returns-5 c =
-    let hear = c .before .before in
-    sym (past-three (at-hear hear) ∙ rw (not-heard _ (answered hear) (c .enum-told .given .1)))
+    let asked = c .before in
+    sym (past-three (at-heard asked) ∙ rw (sym (is-round-heard asked) ∙ not-true _ (c .if5 .taken)))
 
 put-kind-number-requires : tie.Need-put-kind-number-requires
-put-kind-number-requires c κs = found (c .before)
+unfolding view
+put-kind-number-requires c κs =
+    let kind = at-heard (c .before) .before .before .before in
+    (at-kind kind .pre, a-round _ .0 (is-open (kind .before .kind .ensures) (kind .if3 .left)))
 
 returns-6 : tie.Need-returns-6
 unfolding tests first
 returns-6 c =
-    let told = c .before .before in
-    c .put-kind-number .ensures ∙ sym (past-three (at-hear (told .before .before)) ∙ rw (found told .isHeard))
+    let asked = c .before .before in
+    c .put-kind-number .ensures ∙ sym (past-three (at-heard asked) ∙ rw (sym (is-round-heard asked) ∙ not-false _ (c .before .if5 .left)))
 
 pub put-number-spec : {M : Type 1} → statement M
 put-number-spec =
@@ -155,9 +144,7 @@ put-number-spec =
     stations-requires-2
     item-requires
     polled-requires
-    hear-requires
-    enum-known-b
-    enum-told
+    is-heard-requires
     returns-5
     put-kind-number-requires
     returns-6)

@@ -2,7 +2,7 @@ use mathlib.Core.Path.{refl, sym, _∙_}
 use Rattle.rules.specs.Calls.{lay}
 use Rattle.rules.specs.Figures.{figuresOf}
 use Rattle.rules.specs.After.{done}
-use Rattle.calls.proofs.Replies.{by-refusal, by-plain}
+use Rattle.openings.proofs.Replies.{by-refusal, by-plain}
 use Rattle.ospreyscreen.proofs.Laying.{lay-number-is, lay-room}
 use borrow.Author.Needs.{needs}
 use Rattle.ospreyscreen.proofs.ospreyscreen_lay.Statement.{statement}

@@ -13,7 +13,8 @@ returns c = c .first-held .ensures ∙ first-of-read _ _
 
 returns-2 : tie.Need-returns-2
 returns-2 c =
-    sym (promise .no-first-read (c .before .before .args .config .now) (c .before .before .args .set) .1 (promise .short-read (c .before .before .args .config .now) (c .before .before .args .set) (c .if1 .left)))
+    let a = c .before .before .args in
+    sym (promise .no-first-read (a .config .now) (a .set) .1 (promise .short-read (a .config .now) (a .set) (c .if1 .left)))
 
 pub first-read-place-spec : {M : Type 1} → statement M
 first-read-place-spec = tie.close (tie.spec first-held-requires returns returns-2)

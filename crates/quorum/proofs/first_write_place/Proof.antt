@@ -13,7 +13,8 @@ returns c = c .first-held .ensures ∙ first-of-write _ _
 
 returns-2 : tie.Need-returns-2
 returns-2 c =
-    sym (promise .no-first-write (c .before .before .args .config .now) (c .before .before .args .set) .1 (promise .short-write (c .before .before .args .config .now) (c .before .before .args .set) (c .if1 .left)))
+    let a = c .before .before .args in
+    sym (promise .no-first-write (a .config .now) (a .set) .1 (promise .short-write (a .config .now) (a .set) (c .if1 .left)))
 
 pub first-write-place-spec : {M : Type 1} → statement M
 first-write-place-spec = tie.close (tie.spec first-held-requires returns returns-2)

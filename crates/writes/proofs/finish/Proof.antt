@@ -27,7 +27,7 @@ stored c = ⊎-elim (λ w. w .5 ∙ w .2 .ensures) (λ w. w .1 ∙ sym (no-puts 
 set-round-requires : tie.Need-set-round-requires
 set-round-requires c κs =
     let s = start (c .before) in
-    rw (same (c .before)) (head-fits (s .args .t .now) (s .args .n) (s .args .round .item) (s .pre))
+    rw (same (c .before)) (head-fits (s .args .t .now) (s .args .n) (s .args .round .item) (s .pre .0))
 
 same-length : tie.Need-same-length
 same-length c = c .before .before .set-round .kept .0 ∙ same (c .before .before .before .before)

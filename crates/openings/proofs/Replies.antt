@@ -1,19 +1,17 @@
 -- A call's reply and table on a sound table, from its number: refused, or done.
-use mathlib.Core.Path.{_≡_, refl, sym, ap, _∙_}
+use mathlib.Core.Path.{_≡_, refl, sym, _∙_}
 use mathlib.Core.Bool.{true, false}
 use mathlib.Core.List.{List}
 use Prim.Native.Nat.{ℕ, _<_}
 use native.Mathlib.Omega.{arith}
 use borrow.Author.Tests.{ne-eqb}
-use Rattle.layout.specs.Fields.{Copy, newCopy, stations}
 use Rattle.layout.specs.Soundness.{sound}
-use Rattle.layout.specs.Updates.{putCopies, closed}
 use Rattle.layout.specs.View.{State, view}
 use Rattle.layout.proofs.Soundness.{is-sound}
-use Rattle.rules.specs.Calls.{Call, openRead, openWrite, commit, isLay}
+use Rattle.rules.specs.Calls.{Call, openRead, openWrite, isLay}
 use Rattle.rules.specs.Rules.{first, tests, numberOf}
-use Rattle.rules.specs.Figures.{noFigures, closing, figuresOf}
-use Rattle.rules.specs.After.{stores, done}
+use Rattle.rules.specs.Figures.{noFigures, figuresOf}
+use Rattle.rules.specs.After.{done}
 use Rattle.rules.specs.Reply.{answer, replyOf, reply, after}
 use Rattle.rules.specs.Needs.{Allowed}
 use Rattle.rules.specs.declared.Reply.{Reply}
@@ -68,32 +66,3 @@ item-byte t e l = let s = is-sound t e .fewItems in omega arith
 pub write-opens : (v : State) (i x : ℕ) → first (tests v (openRead i)) ≡ first (tests v (openWrite i x))
 unfolding tests
 write-opens v i x = refl
-
--- ---- commit: its outcome is its reply
-module _ (t : List ℕ) {r : Reply} (e : r ≡ reply t commit) where
-  commit-number : r .number ≡ numberOf (view t) commit
-  unfolding replyOf
-  commit-number = ap (λ x. x .number) e
-
-  pub commit-refused : (r .number ≡ 0 → ⊥) → Answers t commit r t
-  unfolding after
-  commit-refused h = (e, rw (← commit-number, ne-eqb (r .number) 0 h))
-
-  -- what is stored are its figures and the round's target
-  stored-is : r .number ≡ 0 → newCopy (r .second) (r .first) (r .third) (view t .round .target) ≡ stores (closing (view t) (view t .round .kind)) (view t .round .target)
-  unfolding replyOf figuresOf
-  stored-is h =
-      let z : numberOf (view t) commit ≡ 0 = sym commit-number ∙ h in
-      let f = closing (view t) (view t .round .kind) in
-      let first : r .first ≡ f .first = ap (λ x. x .first) e ∙ rw z in
-      let second : r .second ≡ f .second = ap (λ x. x .second) e ∙ rw z in
-      let third : r .third ≡ f .third = ap (λ x. x .third) e ∙ rw z in
-      λ i. newCopy (second i) (first i) (third i) (view t .round .target)
-
-  pub commit-finished : {u : List ℕ} → r .number ≡ 0
-      → u ≡ closed (putCopies t (view t .n) (view t .round) (newCopy (r .second) (r .first) (r .third) (view t .round .target)) (view t .n))
-      → Answers t commit r u
-  unfolding after done
-  commit-finished h q =
-      let z : numberOf (view t) commit ≡ 0 = sym commit-number ∙ h in
-      (e, q ∙ rw (z, stored-is h))

@@ -1,17 +1,15 @@
 use mathlib.Core.Path.{refl, _∙_}
-use Rattle.layout.specs.View.{view}
 use Rattle.layout.proofs.Soundness.{sound-head}
-use Rattle.rules.specs.Calls.{openRead}
+use Rattle.rules.specs.Calls.{abandon}
 use Rattle.rules.specs.Figures.{figuresOf}
 use Rattle.rules.specs.After.{done}
-use Rattle.rules.specs.Needs.{needs as needed}
-use Rattle.calls.proofs.Replies.{refused, plain-finished, shown, item-byte}
+use Rattle.openings.proofs.Replies.{refused, plain-finished}
 use borrow.Author.Needs.{needs}
-use Rattle.calls.proofs.open_read_on.Statement.{statement}
-use Rattle.calls.proofs.open_read_on.Tie as tie
+use Rattle.openings.proofs.abandon_on.Statement.{statement}
+use Rattle.openings.proofs.abandon_on.Tie as tie
 
-open-number-requires : tie.Need-open-number-requires
-open-number-requires c κs = search needs
+abandon-number-requires : tie.Need-abandon-number-requires
+abandon-number-requires c κs = search needs
 
 plain-requires : tie.Need-plain-requires
 plain-requires c κs = search needs
@@ -23,14 +21,7 @@ returns : tie.Need-returns
 returns c =
     let asked = c .before .before in
     let s = asked .before .before .before .pre in
-    refused _ s (openRead _) refl (asked .open-number .ensures) (c .before .if1 .taken) (c .plain .ensures)
-
-cast-set-round : tie.Need-cast-set-round
-unfolding needed
-cast-set-round c =
-    let asked = c .before .before in
-    let s = asked .before .before .before .pre in
-    let a = shown _ s (openRead _) refl (asked .open-number .ensures) (c .before .if1 .left) in record { fits = item-byte _ s (a .1 .0) }
+    refused _ s abandon refl (asked .abandon-number .ensures) (c .before .if1 .taken) (c .plain .ensures)
 
 set-round-requires : tie.Need-set-round-requires
 set-round-requires c κs = sound-head _ (c .before .before .before .before .before .pre)
@@ -48,17 +39,16 @@ returns-2 c =
     let allowed = written .before .before in
     let asked = allowed .before in
     let s = asked .before .before .before .pre in
-    plain-finished _ s (openRead _) refl (asked .open-number .ensures) refl (allowed .if1 .left) (c .plain2 .ensures) (written .set-round .ensures)
+    plain-finished _ s abandon refl (asked .abandon-number .ensures) refl (allowed .if1 .left) (c .plain2 .ensures) (written .set-round .ensures)
 
-pub open-read-on-spec : {M : Type 1} → statement M
-open-read-on-spec =
+pub abandon-on-spec : {M : Type 1} → statement M
+abandon-on-spec =
     tie.close
     (tie.spec
-    open-number-requires
+    abandon-number-requires
     plain-requires
     same-length
     returns
-    cast-set-round
     set-round-requires
     plain-requires-2
     same-length-2

@@ -7,10 +7,10 @@ use Rattle.rules.specs.Calls.{openChange}
 use Rattle.rules.specs.Figures.{figuresOf}
 use Rattle.rules.specs.After.{done}
 use Rattle.rules.specs.Needs.{needs as needed}
-use Rattle.calls.proofs.Replies.{refused, plain-finished, shown, item-byte}
+use Rattle.openings.proofs.Replies.{refused, plain-finished, shown, item-byte}
 use borrow.Author.Needs.{needs}
-use Rattle.calls.proofs.open_change_on.Statement.{statement}
-use Rattle.calls.proofs.open_change_on.Tie as tie
+use Rattle.openings.proofs.open_change_on.Statement.{statement}
+use Rattle.openings.proofs.open_change_on.Tie as tie
 
 open-change-number-requires : tie.Need-open-change-number-requires
 open-change-number-requires c κs = search needs
