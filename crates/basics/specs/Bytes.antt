@@ -1,6 +1,6 @@
 -- Parts of a list of bytes, and the numbers in them: "Numbers are least significant byte first."
 use mathlib.Core.List.{List, [], _∷_}
-use Prim.Native.Nat.{ℕ, _+_, _*_, _<_}
+use Prim.Native.Nat.{ℕ, zero, suc, _+_, _*_, _/_, _%_, _<_}
 use lib.ListN.{take, drop}
 
 -- the bytes from a place on, as many as the width says
@@ -14,6 +14,11 @@ littleEndian (byte ∷ rest) = byte + 256 * littleEndian rest
 -- the number in the bytes from a place on
 abbrev pub number : List ℕ → ℕ → ℕ → ℕ
 number t at width = littleEndian (part t at width)
+
+-- the bytes of a number, as many as the width says
+unfoldable pub bytesOf : ℕ → ℕ → List ℕ
+bytesOf zero x = []
+bytesOf (suc width) x = x % 256 ∷ bytesOf width (x / 256)
 
 -- what a slice of bytes can hold
 abbrev pub AreBytes : List ℕ → Type 0

@@ -104,11 +104,11 @@ pub fn link_on(t: &mut [u8], station: u64, state: u64) -> Reply
     let off = off_set(t);
     if state == OFF {
         let left = round.drop(s);
-        set_off(t, quorum::with_station(off, s));
+        set_off(t, sets::with_station(off, s));
         set_puts(t, left.data_puts, left.config_puts);
         return plain(DONE);
     }
-    set_off(t, quorum::without_station(off, s));
+    set_off(t, sets::without_station(off, s));
     set_puts(t, round.data_puts, round.config_puts);
     plain(DONE)
 }
@@ -119,17 +119,17 @@ fn reach_figure(t: &[u8], i: usize) -> u64
     ensures { λ r. ⌜ r ≡ reachFigure (view (now (t .entry))) i ⌝ }
 {
     let n = stations(t);
-    let every = quorum::all_stations(n);
+    let every = sets::all_stations(n);
     let newest = search(t, n, i, every).by_generation;
     let Station::At(g) = newest else {
         return 0;
     };
     let config = config_at(t, address(n, i, g));
-    let on = quorum::difference(every, off_set(t));
-    if !quorum::holds_read_set(config, on) {
+    let on = sets::difference(every, off_set(t));
+    if !sets::holds_read_set(config, on) {
         return 0;
     }
-    if !quorum::holds_write_set(config, on) {
+    if !sets::holds_write_set(config, on) {
         return 1;
     }
     3

@@ -7,6 +7,9 @@ ghost use Rattle.rounds.specs.Round.{roundIn};
 ghost use Rattle.rules.specs.Calls.{commit};
 ghost use Rattle.rules.specs.Reply.{reply};
 ghost use Rattle.closing.specs.Closing.{ClosesAt, closingReply};
+use layout::NO_ROUND;
+use layout::READ;
+use layout::WRITE;
 use numbers::DONE;
 use numbers::IDLE;
 use numbers::SHORT;
@@ -21,9 +24,6 @@ use table::copy::config_at;
 use table::copy::generation_at;
 use table::copy::value_at;
 use table::copy::version_at;
-use table::head::NO_ROUND;
-use table::head::READ;
-use table::head::WRITE;
 use table::head::stations;
 use table::head::target;
 
@@ -70,7 +70,7 @@ fn write_reply(t: &[u8], b: usize, g: usize, round: Round) -> Reply
     if version.is_last() {
         return plain(SPENT);
     }
-    if !quorum::holds_write_set(config_at(t, g), round.data_puts) {
+    if !sets::holds_write_set(config_at(t, g), round.data_puts) {
         return plain(SHORT);
     }
     Reply {
@@ -91,10 +91,10 @@ fn change_reply(t: &[u8], b: usize, g: usize, round: Round) -> Reply
     if generation.is_last() {
         return plain(SPENT);
     }
-    if !quorum::holds_write_set(target(t), round.data_puts) {
+    if !sets::holds_write_set(target(t), round.data_puts) {
         return plain(SHORT);
     }
-    if !quorum::holds_write_set(config_at(t, g), round.config_puts) {
+    if !sets::holds_write_set(config_at(t, g), round.config_puts) {
         return plain(SHORT);
     }
     Reply {

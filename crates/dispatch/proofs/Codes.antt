@@ -10,7 +10,7 @@ use lib.ListN.{length, getD, List·getD-eq-default, length-append}
 use borrow.Author.Tests.{lt-ltb, le-ltb, leb-true, leb-false}
 use Rattle.basics.specs.Bytes.{part, number, AreBytes}
 use Rattle.basics.proofs.Tests.{by-cases}
-use Rattle.layout.specs.Layout.{configSize}
+use Rattle.quorum.specs.Configurations.{configSize}
 use Rattle.layout.proofs.Parts.{part-left, bytes-part, number-lt}
 use Rattle.rules.specs.Calls.{Call}
 use Rattle.rules.specs.Passed.{Passable, Word}

@@ -4,8 +4,8 @@ ghost use Prim.Native.Nat.{_<_};
 ghost use lib.ListN.{length};
 ghost use Rattle.basics.specs.Bytes.{number};
 ghost use Rattle.dispatch.specs.Dispatch.{frameLength, callAt, falseFrame, replyOr, afterOr};
+use quorum::CONFIG_SIZE;
 use rules::Reply;
-use table::number::CONFIG_SIZE;
 use table::number::byte_at;
 use table::number::u64_at;
 

@@ -6,11 +6,11 @@ ghost use Rattle.runs.specs.Pieces.{printedLast};
 ghost use Rattle.reading.specs.Between.{Empty, Ready};
 use feeding::Fed;
 use feeding::finish;
+use layout::LARGEST;
 use libc::STDOUT_FILENO;
 use lines::ENOUGH;
 use reading::AfterRead;
 use reading::answer_reads;
-use table::head::LARGEST;
 
 // At the end of input a last line without a line end is answered. Returns the length of the output.
 fn answer_last(table: &mut [u8], line: &[u8], out: &mut [u8], s: AfterRead) -> usize

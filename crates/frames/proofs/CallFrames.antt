@@ -7,9 +7,8 @@ use Prim.Native.Nat.{ℕ, suc, _+_, _*_, _/_, _%_, _≤_, _<_}
 use native.Mathlib.Omega.{arith}
 use lib.ListN.{length, getD, take, drop, length-drop, drop-of-length-le, take-append-drop}
 use lib.Seq.{take-all, drop-cons, drop-drop}
-use Rattle.basics.specs.Bytes.{part, littleEndian, number, AreBytes}
-use Rattle.layout.specs.Layout.{configSize}
-use Rattle.layout.specs.Updates.{bytesOf}
+use Rattle.basics.specs.Bytes.{part, littleEndian, number, AreBytes, bytesOf}
+use Rattle.quorum.specs.Configurations.{configSize}
 use Rattle.layout.proofs.Numbers.{number-one}
 use Rattle.layout.proofs.Parts.{part-length, read-bytes, bytes-of, bytes-append, bytes-drop, bytes-part, number-lt}
 use Rattle.rules.specs.Calls.{Call, lay, openRead, openWrite, openChange, poll, put, commit, abandon, link, reach}

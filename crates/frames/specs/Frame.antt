@@ -6,9 +6,8 @@ use mathlib.Core.Option.{Option, none}
 use Prim.Native.Nat.{ℕ, _*_, _<_}
 use lib.Dec.{ltb, eqb}
 use lib.ListN.{length, getD, drop}
-use Rattle.basics.specs.Bytes.{AreBytes}
-use Rattle.layout.specs.Layout.{configSize}
-use Rattle.layout.specs.Updates.{bytesOf}
+use Rattle.basics.specs.Bytes.{AreBytes, bytesOf}
+use Rattle.quorum.specs.Configurations.{configSize}
 use Rattle.rules.specs.Calls.{Call, lay, openRead, openWrite, openChange, poll, put, commit, abandon, link, reach}
 use Rattle.rules.specs.Passed.{Word}
 use Rattle.dispatch.specs.Dispatch.{frameLength, callAt}

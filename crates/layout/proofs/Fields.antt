@@ -9,14 +9,15 @@ use lib.Dec.{leb}
 use lib.ListN.{length, replicate, length-append}
 use lib.Seq.{take-all}
 use borrow.Author.Tests.{leb-true, le-leb}
-use Rattle.basics.specs.Bytes.{part, littleEndian, number, AreBytes}
+use Rattle.basics.specs.Bytes.{part, littleEndian, number, AreBytes, bytesOf}
 use Rattle.basics.proofs.Tests.{or-cases, or-left, or-right}
 use Rattle.layout.specs.Layout.{headSize, stationsAt, itemsAt, offAt, kindAt, itemAt, polledAt, dataPutsAt, configPutsAt, spareAt, valueAt}
 use Rattle.layout.specs.Layout.{targetAt}
-use Rattle.layout.specs.Layout.{copySize, copyVersionAt, copyValueAt, copyGenerationAt, copyConfigAt, configSize, address, tableLength}
+use Rattle.quorum.specs.Configurations.{configSize}
+use Rattle.layout.specs.Layout.{copySize, copyVersionAt, copyValueAt, copyGenerationAt, copyConfigAt, address, tableLength}
 use Rattle.layout.specs.Fields.{Copy, Kind, kindOf, Round, stations, items, offSet, roundOf, copyFrom, copyOf}
 use Rattle.layout.specs.Rounds.{withPolled, withPuts, opened}
-use Rattle.layout.specs.Updates.{bytesOf, over, setOff, setPolled, setPuts, setRound, putData, putConfig, copyBytes}
+use Rattle.layout.specs.Updates.{over, setOff, setPolled, setPuts, setRound, putData, putConfig, copyBytes}
 use Rattle.layout.proofs.Parts.{part-left, part-right, length-over, part-inside, part-whole, part-before, part-after}
 use Rattle.layout.proofs.Parts.{length-bytes, read-bytes, bytes-append, bytes-of, bytes-zeros, bytes-over}
 

@@ -6,7 +6,8 @@ use Prim.Native.Nat.{ℕ, _^_, _≤_, _<_}
 use native.Mathlib.Omega.{arith}
 use lib.ListN.{length}
 use Rattle.basics.specs.Bytes.{number, AreBytes}
-use Rattle.layout.specs.Layout.{headSize, kindAt, spareAt, configSize, tableLength}
+use Rattle.quorum.specs.Configurations.{configSize}
+use Rattle.layout.specs.Layout.{headSize, kindAt, spareAt, tableLength}
 use Rattle.layout.specs.Fields.{Copy, kindOf, Round, stations, items, offSet, roundOf, copyOf}
 use Rattle.layout.specs.View.{State, view}
 use Rattle.layout.specs.Rounds.{withPolled, withPuts, opened}

@@ -11,11 +11,11 @@ use lib.Dec.{eqb}
 use borrow.Author.Tests.{leb-true, le-leb, ltb-true, lt-ltb, eqb-true, eq-eqb, not-true}
 use Rattle.basics.specs.Bytes.{littleEndian, number}
 use Rattle.quorum.specs.Sets.{shares, within}
-use Rattle.quorum.specs.Configurations.{valid}
+use Rattle.quorum.specs.Configurations.{valid, configSize}
 use Rattle.basics.proofs.Bytes.{number-none, number-suc}
 use Rattle.basics.proofs.Tests.{and-left, and-right, and-both, all-true, true-all, all-below, below-all}
 use Rattle.layout.proofs.Fields.{table-head}
-use Rattle.layout.specs.Layout.{headSize, tableLength, kindAt, itemAt, polledAt, dataPutsAt, configPutsAt, spareAt, valueAt, targetAt, configSize}
+use Rattle.layout.specs.Layout.{headSize, tableLength, kindAt, itemAt, polledAt, dataPutsAt, configPutsAt, spareAt, valueAt, targetAt}
 use Rattle.layout.specs.Fields.{Kind, none, read, write, change, Round, stations, items, roundOf}
 use Rattle.layout.specs.Soundness.{roundSound, copiesValid, soundness, sound}
 use Rattle.layout.specs.View.{State, view}

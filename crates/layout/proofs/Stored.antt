@@ -12,7 +12,8 @@ use Rattle.basics.specs.Bytes.{part, littleEndian, AreBytes}
 use Rattle.quorum.specs.Sets.{member}
 use Rattle.basics.proofs.Tests.{below-suc}
 use Rattle.layout.specs.Layout.{headSize, copiesAt, stationsAt, itemsAt, offAt, kindAt, spareAt, valueAt, targetAt}
-use Rattle.layout.specs.Layout.{copySize, configSize, address, tableLength}
+use Rattle.quorum.specs.Configurations.{configSize}
+use Rattle.layout.specs.Layout.{copySize, address, tableLength}
 use Rattle.layout.specs.Fields.{Copy, none, Round, stations, copyFrom}
 use Rattle.layout.specs.View.{State}
 use Rattle.layout.specs.Rounds.{opened}

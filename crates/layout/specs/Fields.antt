@@ -3,7 +3,8 @@ use mathlib.Core.List.{List}
 use Prim.Native.Nat.{ℕ, zero, suc, _+_}
 use Rattle.basics.specs.Bytes.{part, number}
 use Rattle.layout.specs.Layout.{stationsAt, itemsAt, offAt, kindAt, itemAt, polledAt, dataPutsAt, configPutsAt, valueAt, targetAt}
-use Rattle.layout.specs.Layout.{copyVersionAt, copyValueAt, copyGenerationAt, copyConfigAt, configSize, address}
+use Rattle.quorum.specs.Configurations.{configSize}
+use Rattle.layout.specs.Layout.{copyVersionAt, copyValueAt, copyGenerationAt, copyConfigAt, address}
 
 -- One copy: the data replica (version and value) and the configuration replica (generation and configuration) of source 000
 -- at one station. Here both counters are numbers; "A version is compared only with versions, and a generation only with

@@ -62,10 +62,6 @@ copyGenerationAt = 16
 abbrev pub copyConfigAt : ℕ
 copyConfigAt = 24
 
--- "A configuration is 32 bytes"
-abbrev pub configSize : ℕ
-configSize = 32
-
 -- "The copy of item i at station s starts at 56 + 56 × (i × n + s)."
 unfoldable pub address : ℕ → ℕ → ℕ → ℕ
 address n i s = copiesAt + copySize * (i * n + s)

@@ -7,8 +7,8 @@ use lib.Dec.{ltb, leb, eqb}
 use Rattle.basics.specs.Tests.{all, allBelow}
 use Rattle.basics.specs.Bytes.{number}
 use Rattle.quorum.specs.Sets.{shares, within}
-use Rattle.quorum.specs.Configurations.{valid}
-use Rattle.layout.specs.Layout.{headSize, tableLength, kindAt, itemAt, spareAt, valueAt, targetAt, configSize}
+use Rattle.quorum.specs.Configurations.{valid, configSize}
+use Rattle.layout.specs.Layout.{headSize, tableLength, kindAt, itemAt, spareAt, valueAt, targetAt}
 use Rattle.layout.specs.Fields.{Kind, none, read, write, change, kindByte, stations, items, offSet, roundOf, copyOf}
 
 -- the bytes from a place on, as many as the width says, are zero

@@ -3,14 +3,11 @@ use mathlib.Core.Bool.{Bool, cond}
 use mathlib.Core.List.{List, [], _∷_, _++_}
 use Prim.Native.Nat.{ℕ, zero, suc, _+_, _-_, _*_, _/_, _%_}
 use lib.ListN.{length, take, drop, replicate}
+use Rattle.basics.specs.Bytes.{bytesOf}
 use Rattle.quorum.specs.Sets.{member}
-use Rattle.layout.specs.Layout.{headSize, offAt, kindAt, polledAt, dataPutsAt, spareAt, valueAt, configSize, copyVersionAt, copyGenerationAt, address}
+use Rattle.quorum.specs.Configurations.{configSize}
+use Rattle.layout.specs.Layout.{headSize, offAt, kindAt, polledAt, dataPutsAt, spareAt, valueAt, copyVersionAt, copyGenerationAt, address}
 use Rattle.layout.specs.Fields.{Copy, none, kindByte, Round}
-
--- the bytes of a number, as many as the width says: "Numbers are least significant byte first."
-unfoldable pub bytesOf : ℕ → ℕ → List ℕ
-bytesOf zero x = []
-bytesOf (suc width) x = x % 256 ∷ bytesOf width (x / 256)
 
 -- bytes written from a place on, within the list; every other byte stays as it was
 unfoldable pub over : List ℕ → ℕ → List ℕ → List ℕ

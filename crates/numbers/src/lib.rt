@@ -10,14 +10,14 @@ ghost use Rattle.layout.specs.Soundness.{sound};
 ghost use Rattle.layout.specs.View.{view};
 ghost use Rattle.rules.specs.Calls.{lay, openRead, openChange, poll, put, abandon, link, reach};
 ghost use Rattle.rules.specs.Rules.{first, readingOver, spent, tests};
+use layout::NO_ROUND;
+use layout::READ;
+use layout::WRITE;
 use rounds::heard::is_heard;
 use rules::Reply;
 use table::copy::address;
 use table::copy::generation_at;
 use table::copy::version_at;
-use table::head::NO_ROUND;
-use table::head::READ;
-use table::head::WRITE;
 use table::head::config_puts;
 use table::head::data_puts;
 use table::head::item;
@@ -120,7 +120,7 @@ pub fn poll_number(t: &[u8], s: u64) -> u64
     if kind(t) == NO_ROUND {
         return IDLE;
     }
-    if quorum::is_member(off_set(t), s as usize) {
+    if sets::is_member(off_set(t), s as usize) {
         return OFF_THE_BUS;
     }
     if has_puts(t) {
@@ -150,7 +150,7 @@ pub fn put_number(t: &[u8], s: u64, sort: u64) -> u64
     if kind(t) == NO_ROUND {
         return IDLE;
     }
-    if quorum::is_member(off_set(t), s as usize) {
+    if sets::is_member(off_set(t), s as usize) {
         return OFF_THE_BUS;
     }
     if !is_heard(t, stations(t), item(t), polled(t)) {

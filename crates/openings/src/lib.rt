@@ -4,18 +4,18 @@ ghost use mathlib.Core.Bool.{true};
 ghost use Rattle.layout.specs.Soundness.{sound};
 ghost use Rattle.rules.specs.Calls.{openRead, openWrite, openChange, abandon};
 ghost use Rattle.rules.specs.Reply.{reply, after};
+use layout::CHANGE;
+use layout::NO_ROUND;
+use layout::READ;
+use layout::WRITE;
 use numbers::DONE;
 use numbers::abandon_number;
 use numbers::open_change_number;
 use numbers::open_number;
 use numbers::plain;
+use quorum::CONFIG_SIZE;
 use rules::Reply;
-use table::head::CHANGE;
-use table::head::NO_ROUND;
-use table::head::READ;
-use table::head::WRITE;
 use table::head::set_round;
-use table::number::CONFIG_SIZE;
 use table::number::config_bytes_at;
 
 pub fn open_read_on(t: &mut [u8], i: u64) -> Reply

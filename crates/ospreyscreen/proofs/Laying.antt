@@ -4,7 +4,8 @@ use mathlib.Core.List.{List}
 use Prim.Native.Nat.{ℕ, _≤_}
 use lib.ListN.{length}
 use borrow.Author.Tests.{eqb-true}
-use Rattle.layout.specs.Layout.{configSize, tableLength}
+use Rattle.quorum.specs.Configurations.{configSize}
+use Rattle.layout.specs.Layout.{tableLength}
 use Rattle.layout.specs.View.{view}
 use Rattle.rules.specs.Calls.{lay}
 use Rattle.rules.specs.Rules.{first, tests, numberOf}

@@ -1,5 +1,4 @@
 mod Members
 mod Validity
-mod Sides
 pub mod Promise
 mod Examples

@@ -289,37 +289,3 @@ within-unite n a b =
 pub within-minus : (n a b : ℕ) → within n a ≡ true → within n (minus a b) ≡ true
 unfolding within minus
 within-minus n a b e = lt-ltb (a - bitAnd a b) (2 ^ n) (omega (arith, ltb-true a (2 ^ n) e))
-
--- ---- sets of 16 bits, as the code has them
-pub one-shl : (k w : ℕ) → k < w → (1 * 2 ^ k) % 2 ^ w ≡ 2 ^ k
-one-shl k w l = rw one-mul (mod-eq-of-lt (pow-lt l))
-
--- a station 16 or above is in no set, so that nothing changes without it
-pub no-member : (a i : ℕ) → a < 2 ^ 16 → 16 ≤ i → false ≡ member a i
-no-member a i l h =
-    by-cases (λ (b : Bool). false ≡ b) (member a i) (λ e. let k = within-member i 16 a l e in absurd (omega arith)) (λ _. refl)
-
-pub remove-none : (a k : ℕ) → a < 2 ^ 16 → 16 ≤ k → a ≡ remove a k
-remove-none a k l h =
-    same-members _ _ (λ i. sym (member-remove i k a ∙ by-cases (λ (b : Bool). eqb i k ≡ b → (member a i && not b) ≡ member a i) (eqb i k)
-    (λ _ e. rw (and-false, eqb-true i k e) (no-member a k l h)) (λ _ _. rw and-true) refl))
-
-pub all-within : (a n : ℕ) → a < 2 ^ 16 → 16 ≤ n → true ≡ within n a
-unfolding within
-all-within a n l h = let p : 2 ^ 16 ≤ 2 ^ n = pow-mono h in sym (lt-ltb a (2 ^ n) (omega arith))
-
--- no digit is left above the n lowest exactly if the set is within n
-pub shifted-within : (a n : ℕ) → eqb (a / 2 ^ n) 0 ≡ within n a
-unfolding within
-shifted-within a n =
-    let below : (a / 2 ^ n < 1) ↔ (a < 2 ^ n) = rw one-mul at (div-lt-iff-lt-mul {x = a} {y = 1} (pow-pos n)) in
-    same-test _ _ (λ e. let z = eqb-true (a / 2 ^ n) 0 e in lt-ltb a (2 ^ n) (below .0 (omega arith)))
-    (λ e. let q = below .1 (ltb-true a (2 ^ n) e) in eq-eqb (a / 2 ^ n) 0 (omega arith))
-
-pub full-small : (n : ℕ) → n < 16 → 2 ^ n - 1 ≡ full n
-unfolding full
-full-small n l = rw (min-eq-left (le-of-lt l))
-
-pub full-all : (n : ℕ) → 16 ≤ n → 65535 ≡ full n
-unfolding full
-full-all n l = rw (min-eq-right l)

@@ -4,7 +4,6 @@ use mathlib.Core.Bool.{Bool, true, false}
 use mathlib.Core.List.{List}
 use mathlib.Core.Logic.{_↔_}
 use Prim.Native.Nat.{ℕ, _+_, _≤_, _^_}
-use native.Mathlib.Nat.{le-refl}
 use native.Mathlib.Omega.{arith}
 use lib.ListN.{length}
 use lib.Pow.{pow-pos, pow-mono}
@@ -15,10 +14,10 @@ use Rattle.quorum.specs.Configurations.{setAt, readSet, writeSet, valid,
 use Rattle.quorum.specs.Promise.{Promise, _⊆_, LiesIn, FirstIn, Side}
 use Rattle.quorum.specs.declared.Place.the-variants.{At}
 use Rattle.basics.proofs.Tests.{clash, fails, same-test, any-below, below-any}
-use Rattle.quorum.proofs.Members.{member-empty, member-join, member-or, member-minus, member-remove, member-full, same-members, full-all}
+use Rattle.quorum.proofs.Members.{member-empty, member-join, member-or, member-minus, member-remove, member-full, same-members}
 use Rattle.quorum.proofs.Members.{holds-member, member-holds, shares-members, used-member, within-members, within-join, within-unite, within-minus}
-use Rattle.quorum.proofs.Members.{lowest-member, below-lowest, remove-less}
-use Rattle.quorum.proofs.Validity.{valid-facts, facts-valid, first-used, place-lies, lies-place, first-found, first-nowhere}
+use Rattle.quorum.proofs.Members.{lowest-member, below-lowest, remove-less, without-lowest}
+use Rattle.quorum.proofs.Validity.{valid-facts, facts-valid, first-used, place-lies, lies-place, first-start, first-on, first-hit, first-found, first-nowhere}
 
 -- ---- a side of a configuration
 module _ (side : ℕ → ℕ) (set : ℕ) where
@@ -78,7 +77,7 @@ module _ (side : ℕ → ℕ) (set : ℕ) where
   )
 
 pub promise : Promise
-unfolding readSet writeSet holdsRead holdsWrite firstRead firstWrite within unite remove
+unfolding readSet writeSet holdsRead holdsWrite firstRead firstWrite within unite remove full
 promise =
     record {
       quorums-meet = meeting;
@@ -94,6 +93,9 @@ promise =
       first-write = λ c. first-in (writeSet c);
       no-first-read = λ c set. first-nowhere (holdsPlace (readSet c) set) 8;
       no-first-write = λ c set. first-nowhere (holdsPlace (writeSet c) set) 8;
+      first-start = first-start;
+      first-on = first-on;
+      first-hit = first-hit;
       valid-exactly = λ n c. (valid-facts n c, facts-valid n c);
       valid-stations = λ n c v. let f = valid-facts n c v in (f .positive, f .small);
       first-used = first-used;
@@ -106,7 +108,7 @@ promise =
       member-minus = λ a b i. member-minus i a b;
       member-remove = λ a i k. member-remove i k a;
       member-full = member-full;
-      full-16 = full-all 16 (le-refl 16);
+      full-16 = refl;
       used-member = used-member;
       same-members = λ a b p q. same-members a b (λ i. same-test _ _ (p i) (q i));
       holds-members = λ a b. (holds-member a b, member-holds a b);
@@ -114,6 +116,7 @@ promise =
       lowest-member = lowest-member;
       below-lowest = below-lowest;
       remove-less = remove-less;
+      without-lowest = without-lowest;
       within-member = λ n a i w. within-members n a .0 w i;
       member-within = λ n a. within-members n a .1;
       within-empty = λ n. lt-ltb 0 (2 ^ n) (pow-pos n);

@@ -4,7 +4,7 @@ use mathlib.Core.Bool.{Bool, true, false, not, cond, _||_}
 use mathlib.Core.List.{List}
 use mathlib.Core.Logic.{_↔_, _⊎_, inl, inr, ⊎-elim}
 use Prim.Native.Nat.{ℕ, zero, suc, _+_, _≤_, _<_}
-use native.Mathlib.Nat.{not-suc-le-zero, le-antisymm}
+use native.Mathlib.Nat.{not-suc-le-zero}
 use native.Mathlib.Numerals.{add-one}
 use native.Mathlib.Omega.{arith}
 use lib.ListN.{length}
@@ -122,7 +122,7 @@ first-step : (p : ℕ → Bool) (k : ℕ) → firstPlace p (suc k) ≡ orElse (f
 unfolding firstPlace
 first-step p k = refl
 
--- what a search that counts up asks: at its start, where it goes on, where it finds, and where it ends
+-- what a search that counts up asks: at its start, where it goes on, and where it finds
 pub first-start : (p : ℕ → Bool) → firstPlace p 0 ≡ Nowhere
 unfolding firstPlace
 first-start p = refl
@@ -138,9 +138,6 @@ first-hit p (suc n) k l e f =
     by-cases (λ (b : Bool). eqb k n ≡ b → firstPlace p (suc n) ≡ At k) (eqb k n)
     (λ _ q. let h = eqb-true k n q in rw (first-step, ← h, e, f))
     (λ _ q. let h : k ≡ n → ⊥ = eqb-false k n q in rw (first-step, first-hit p n k (omega arith) e f)) refl
-
-pub first-end : (p : ℕ → Bool) (n k : ℕ) → k ≤ n → n ≤ k → firstPlace p k ≡ Nowhere → Nowhere ≡ firstPlace p n
-first-end p n k l m e = sym (ap (firstPlace p) (le-antisymm m l) ∙ e)
 
 -- the search over the numbers below n: of none does p hold, or i is the first
 abbrev None : (ℕ → Bool) → ℕ → Type 0

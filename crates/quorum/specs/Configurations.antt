@@ -11,9 +11,12 @@ use Rattle.quorum.specs.declared.Place.{Place}
 use Rattle.quorum.specs.declared.Place.the-variants.{At, Nowhere}
 
 -- "A configuration is 32 bytes: eight read sets, then eight write sets, two bytes each."
+abbrev pub configSize : ℕ
+configSize = 32
+
 -- A list of another length is no configuration, and no place of it is used.
 unfoldable pub setAt : List ℕ → ℕ → ℕ
-setAt c place = cond (eqb (length c) 32) (number c (2 * place) 2) 0
+setAt c place = cond (eqb (length c) configSize) (number c (2 * place) 2) 0
 
 -- the sets of the two sides, by their places: the read and write quorums of source 000. Nobody asks beyond place 7 (there
 -- `readSet` would run on into the write sets, and `writeSet` gives 0).
@@ -48,7 +51,7 @@ unfoldable pub validity : ℕ → List ℕ → List Bool
 validity n c =
     leb 1 n
     ∷ leb n 16
-    ∷ eqb (length c) 32
+    ∷ eqb (length c) configSize
     ∷ usedFirst (readSet c)
     ∷ usedFirst (writeSet c)
     ∷ someUsed (readSet c)
@@ -61,11 +64,11 @@ validity n c =
 unfoldable pub valid : ℕ → List ℕ → Bool
 valid n c = all (validity n c)
 
--- the 32 bytes at a place of a list are a valid configuration
+-- the bytes at a place of a list are a valid configuration
 abbrev pub validAt : ℕ → List ℕ → ℕ → Bool
-validAt n bytes at = valid n (part bytes at 32)
+validAt n bytes at = valid n (part bytes at configSize)
 
--- so are the 32 bytes at that place, a stride further on, and so on: as many times as the count says
+-- so are the bytes at that place, a stride further on, and so on: as many times as the count says
 unfoldable pub validTo : ℕ → List ℕ → ℕ → ℕ → ℕ → Bool
 validTo n bytes at stride count = allBelow (λ k. validAt n bytes (at + stride * k)) count
 

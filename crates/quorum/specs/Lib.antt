@@ -1,4 +1,3 @@
 pub mod Sets
 pub mod Configurations
-pub mod Inner
 pub mod Promise

@@ -1,16 +1,17 @@
--- What the crate promises of its definitions of sets and configurations. The crates above rely on this record and on the
--- contracts alone for both; `validTo` is vocabulary that they use as it is defined. The crate `validity`, the code of one of the tests,
--- belongs to this layer and opens the definitions.
+-- What the crate promises of its definitions of sets and configurations. The crates above rely on this record and on the contracts of
+-- `sets` alone for both; `validTo` is vocabulary that they use as it is defined. The crates `sets` and `validity`, the code of this layer,
+-- open the definitions.
 use mathlib.Core.Path.{_≡_}
-use mathlib.Core.Bool.{true, false, not, _&&_, _||_}
+use mathlib.Core.Bool.{Bool, true, false, not, _&&_, _||_}
 use mathlib.Core.List.{List}
 use mathlib.Core.Logic.{_↔_}
-use Prim.Native.Nat.{ℕ, suc, _≤_, _<_}
+use Prim.Native.Nat.{ℕ, suc, _+_, _-_, _≤_, _<_}
 use lib.Dec.{ltb, eqb}
 use lib.ListN.{length}
+use lib.Bits.{bitAnd}
 use Rattle.basics.specs.Tests.{Some}
 use Rattle.quorum.specs.Sets.{member, used, holds, shares, within, join, unite, minus, remove, lowest, full}
-use Rattle.quorum.specs.Configurations.{readSet, writeSet, valid, holdsRead, holdsWrite, firstRead, firstWrite}
+use Rattle.quorum.specs.Configurations.{configSize, readSet, writeSet, valid, holdsRead, holdsWrite, firstPlace, firstRead, firstWrite}
 use Rattle.quorum.specs.declared.Place.the-variants.{At, Nowhere}
 
 infix 50 _⊆_
@@ -37,7 +38,7 @@ pub record Side (n : ℕ) (side : ℕ → ℕ) : Type 0 where
 pub record Valid (n : ℕ) (c : List ℕ) : Type 0 where
   pub positive : 1 ≤ n
   pub small : n ≤ 16
-  pub long : length c ≡ 32
+  pub long : length c ≡ configSize
   pub reads : Side n (readSet c)
   pub writes : Side n (writeSet c)
   pub meet : (j k : ℕ) → j < 8 → k < 8 → used (readSet c j) ≡ true → used (writeSet c k) ≡ true
@@ -64,15 +65,19 @@ pub record Promise : Type 0 where
   pub first-write : (c : List ℕ) (set k : ℕ) → (firstWrite c set ≡ At k) ↔ FirstIn (writeSet c) set k
   pub no-first-read : (c : List ℕ) (set : ℕ) → (firstRead c set ≡ Nowhere) ↔ (holdsRead c set ≡ false)
   pub no-first-write : (c : List ℕ) (set : ℕ) → (firstWrite c set ≡ Nowhere) ↔ (holdsWrite c set ≡ false)
+  -- a search that counts up: at its start, where it goes on, and where it finds
+  pub first-start : (p : ℕ → Bool) → firstPlace p 0 ≡ Nowhere
+  pub first-on : (p : ℕ → Bool) (k : ℕ) → firstPlace p k ≡ Nowhere → p k ≡ false → firstPlace p (k + 1) ≡ Nowhere
+  pub first-hit : (p : ℕ → Bool) (n k : ℕ) → k < n → firstPlace p k ≡ Nowhere → p k ≡ true → firstPlace p n ≡ At k
   -- ---- validity
   pub valid-exactly : (n : ℕ) (c : List ℕ) → (valid n c ≡ true) ↔ Valid n c
   pub valid-stations : (n : ℕ) (c : List ℕ) → valid n c ≡ true → (1 ≤ n) × (n ≤ 16)
   -- a side's first place is used
   pub first-used : (n : ℕ) (side : ℕ → ℕ) → Side n side → used (side 0) ≡ true
-  pub valid-length : (n : ℕ) (c : List ℕ) → valid n c ≡ true → length c ≡ 32
+  pub valid-length : (n : ℕ) (c : List ℕ) → valid n c ≡ true → length c ≡ configSize
   -- a list of another length has no sets
-  pub short-read : (c : List ℕ) (set : ℕ) → (length c ≡ 32 → ⊥) → holdsRead c set ≡ false
-  pub short-write : (c : List ℕ) (set : ℕ) → (length c ≡ 32 → ⊥) → holdsWrite c set ≡ false
+  pub short-read : (c : List ℕ) (set : ℕ) → (length c ≡ configSize → ⊥) → holdsRead c set ≡ false
+  pub short-write : (c : List ℕ) (set : ℕ) → (length c ≡ configSize → ⊥) → holdsWrite c set ≡ false
   -- ---- members
   pub member-empty : (i : ℕ) → member 0 i ≡ false
   pub member-join : (a i k : ℕ) → k < 16 → member (join a k) i ≡ (member a i || eqb i k)
@@ -91,6 +96,8 @@ pub record Promise : Type 0 where
   pub lowest-member : (a : ℕ) → a < 65536 → used a ≡ true → member a (lowest a) ≡ true
   pub below-lowest : (a i : ℕ) → i < lowest a → member a i ≡ false
   pub remove-less : (a i : ℕ) → member a i ≡ true → remove a i < a
+  -- the digits that a number shares with the one before it: the set without its lowest station
+  pub without-lowest : (a : ℕ) → a < 65536 → (a ≡ 0 → ⊥) → bitAnd a (a - 1) ≡ remove a (lowest a)
   -- ---- stations below n
   pub within-member : (n a i : ℕ) → within n a ≡ true → member a i ≡ true → i < n
   pub member-within : (n a : ℕ) → ((i : ℕ) → member a i ≡ true → i < n) → within n a ≡ true

@@ -2,8 +2,7 @@
 use mathlib.Core.Path.{_≡_}
 use mathlib.Core.List.{List, [], _∷_, _++_}
 use Prim.Native.Nat.{ℕ, _+_, _*_, _<_}
-use Rattle.basics.specs.Bytes.{number}
-use Rattle.layout.specs.Updates.{bytesOf}
+use Rattle.basics.specs.Bytes.{number, bytesOf}
 use Rattle.rules.specs.Passed.{Word}
 use Rattle.rules.specs.declared.Reply.{Reply}
 use Rattle.frames.specs.Hex.{hexOf}

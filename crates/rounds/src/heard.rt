@@ -28,7 +28,7 @@ pub fn hear(t: &[u8], n: usize, item: usize, polled: u16) -> Heard
         return Heard::Not;
     };
     let at = address(n, item, g);
-    if quorum::holds_read_set(config_at(t, at), polled) {
+    if sets::holds_read_set(config_at(t, at), polled) {
         return Heard::Copies(address(n, item, b), at);
     }
     Heard::Not
@@ -45,5 +45,5 @@ pub fn is_heard(t: &[u8], n: usize, item: usize, polled: u16) -> bool
     let Station::At(g) = by_generation else {
         return false;
     };
-    quorum::holds_read_set(config_at(t, address(n, item, g)), polled)
+    sets::holds_read_set(config_at(t, address(n, item, g)), polled)
 }

@@ -6,9 +6,9 @@ ghost use lib.ListN.{length};
 ghost use Rattle.layout.specs.Layout.{headSize};
 ghost use Rattle.layout.specs.Rounds.{withPoll, withPut, withLink};
 ghost use Rattle.rounds.specs.Round.{roundIn, asRound};
+use layout::TARGET_AT;
+use quorum::CONFIG_SIZE;
 use table::head;
-use table::head::TARGET_AT;
-use table::number::CONFIG_SIZE;
 use table::number::config_bytes_at;
 
 pub struct Round {
@@ -43,7 +43,7 @@ impl Round {
         ensures { λ r. ⌜ asRound r ≡ withPoll (asRound self) station ⌝ }
     {
         let mut r = self;
-        r.polled = quorum::with_station(self.polled, station);
+        r.polled = sets::with_station(self.polled, station);
         r
     }
 
@@ -53,10 +53,10 @@ impl Round {
     {
         let mut r = self;
         if is_data {
-            r.data_puts = quorum::with_station(self.data_puts, station);
+            r.data_puts = sets::with_station(self.data_puts, station);
             return r;
         }
-        r.config_puts = quorum::with_station(self.config_puts, station);
+        r.config_puts = sets::with_station(self.config_puts, station);
         r
     }
 
@@ -65,8 +65,8 @@ impl Round {
         ensures { λ r. ⌜ asRound r ≡ withLink (asRound self) station true ⌝ }
     {
         let mut r = self;
-        r.data_puts = quorum::without_station(self.data_puts, station);
-        r.config_puts = quorum::without_station(self.config_puts, station);
+        r.data_puts = sets::without_station(self.data_puts, station);
+        r.config_puts = sets::without_station(self.config_puts, station);
         r
     }
 }

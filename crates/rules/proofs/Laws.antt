@@ -12,7 +12,8 @@ use borrow.Author.Tests.{eqb-true, eq-eqb}
 use Rattle.basics.specs.Bytes.{AreBytes}
 use Rattle.basics.proofs.Tests.{by-cases}
 use Rattle.quorum.proofs.Promise.{promise}
-use Rattle.layout.specs.Layout.{targetAt, configSize, tableLength}
+use Rattle.quorum.specs.Configurations.{configSize}
+use Rattle.layout.specs.Layout.{targetAt, tableLength}
 use Rattle.layout.specs.Fields.{Copy, Kind, none, read, write, change}
 use Rattle.layout.specs.Soundness.{sound}
 use Rattle.layout.specs.View.{Table, State, view, heard}

@@ -7,10 +7,9 @@ use native.Mathlib.Omega.{arith}
 use lib.Dec.{eqb}
 use borrow.Author.Tests.{eqb-true, eqb-false, eq-eqb, not-true}
 use Rattle.quorum.specs.Sets.{member, shares, within, join, remove}
-use Rattle.quorum.specs.Configurations.{valid}
+use Rattle.quorum.specs.Configurations.{valid, configSize}
 use Rattle.basics.proofs.Tests.{clash, by-cases, and-left, and-right, or-cases}
 use Rattle.quorum.proofs.Promise.{promise}
-use Rattle.layout.specs.Layout.{configSize}
 use Rattle.layout.specs.Fields.{Copy, Kind, none, read, write, change, Round}
 use Rattle.layout.specs.View.{State}
 use Rattle.layout.specs.Updates.{noTarget}

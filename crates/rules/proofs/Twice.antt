@@ -8,13 +8,13 @@ use native.Mathlib.Omega.{arith}
 use lib.Dec.{eqb}
 use lib.ListN.{length, length-append}
 use borrow.Author.Tests.{eqb-true}
-use Rattle.basics.specs.Bytes.{part, AreBytes}
+use Rattle.basics.specs.Bytes.{part, AreBytes, bytesOf}
 use Rattle.quorum.specs.Sets.{member, join}
 use Rattle.basics.proofs.Tests.{or-left, or-right, or-cases}
 use Rattle.quorum.proofs.Promise.{promise}
 use Rattle.layout.specs.Layout.{headSize, polledAt, dataPutsAt, configPutsAt}
 use Rattle.layout.specs.View.{view}
-use Rattle.layout.specs.Updates.{bytesOf, setPolled, setPuts}
+use Rattle.layout.specs.Updates.{setPolled, setPuts}
 use Rattle.layout.proofs.Parts.{over-again, over-append, over-own, number-bytes, part-length, length-bytes}
 use Rattle.layout.proofs.Fields.{polled-round, puts-round}
 use Rattle.layout.proofs.Soundness.{sound-head}

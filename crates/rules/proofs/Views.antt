@@ -9,7 +9,8 @@ use borrow.Author.Tests.{eqb-false}
 use Rattle.basics.specs.Bytes.{AreBytes}
 use Rattle.quorum.specs.Sets.{within}
 use Rattle.quorum.proofs.Promise.{promise}
-use Rattle.layout.specs.Layout.{valueAt, copyVersionAt, copyValueAt, copyGenerationAt, configSize}
+use Rattle.quorum.specs.Configurations.{configSize}
+use Rattle.layout.specs.Layout.{valueAt, copyVersionAt, copyValueAt, copyGenerationAt}
 use Rattle.layout.specs.Fields.{Copy, Kind, none, read, write, change, kindOf, copyFrom}
 use Rattle.layout.specs.Rounds.{opened}
 use Rattle.layout.specs.View.{State, view, own, heard, foundByVersion, foundByGeneration}

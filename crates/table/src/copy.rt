@@ -6,23 +6,16 @@ ghost use lib.Dec.{ltb, eqb};
 ghost use Rattle.layout.specs.Layout.{copySize, address};
 ghost use Rattle.layout.specs.Fields.{copyFrom};
 ghost use Rattle.layout.specs.Updates.{putData, putConfig};
-use crate::number::CONFIG_SIZE;
 use crate::number::put_config_bytes;
 use crate::number::put_u64;
 use crate::number::u64_at;
-
-// Where the copies start, and how long each is.
-pub const COPIES_AT: usize = 56;
-
-pub const COPY_SIZE: usize = 56;
-
-pub const COPY_VERSION_AT: usize = 0;
-
-pub const COPY_VALUE_AT: usize = 8;
-
-pub const COPY_GENERATION_AT: usize = 16;
-
-pub const COPY_CONFIG_AT: usize = 24;
+use layout::COPIES_AT;
+use layout::COPY_CONFIG_AT;
+use layout::COPY_GENERATION_AT;
+use layout::COPY_SIZE;
+use layout::COPY_VALUE_AT;
+use layout::COPY_VERSION_AT;
+use quorum::CONFIG_SIZE;
 
 // How often the value was written. It is compared only with versions.
 pub struct Version(pub u64);

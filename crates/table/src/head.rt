@@ -6,9 +6,6 @@ ghost use Rattle.basics.specs.Bytes.{number};
 ghost use Rattle.layout.specs.Layout.{headSize, kindAt, layLength};
 ghost use Rattle.layout.specs.Fields.{stations, items, offSet, roundOf};
 ghost use Rattle.layout.specs.Updates.{setOff, setPolled, setPuts, setRound};
-use crate::copy::COPIES_AT;
-use crate::copy::COPY_SIZE;
-use crate::number::CONFIG_SIZE;
 use crate::number::byte_at;
 use crate::number::put_config_bytes;
 use crate::number::put_pair;
@@ -16,42 +13,21 @@ use crate::number::put_u16;
 use crate::number::put_u64;
 use crate::number::u16_at;
 use crate::number::u64_at;
-
-pub const HEAD_SIZE: usize = 56;
-
-pub const STATIONS_AT: usize = 0;
-
-pub const ITEMS_AT: usize = 1;
-
-pub const OFF_AT: usize = 2;
-
-pub const KIND_AT: usize = 4;
-
-pub const ITEM_AT: usize = 5;
-
-pub const POLLED_AT: usize = 6;
-
-pub const DATA_PUTS_AT: usize = 8;
-
-pub const CONFIG_PUTS_AT: usize = 10;
-
-pub const SPARE_AT: usize = 12;
-
-pub const VALUE_AT: usize = 16;
-
-pub const TARGET_AT: usize = 24;
-
-// The length of the largest table.
-pub const LARGEST: usize = 28728;
-
-// The kinds of a round, as its byte has them.
-pub const NO_ROUND: u8 = 0;
-
-pub const READ: u8 = 1;
-
-pub const WRITE: u8 = 2;
-
-pub const CHANGE: u8 = 3;
+use layout::CONFIG_PUTS_AT;
+use layout::COPIES_AT;
+use layout::COPY_SIZE;
+use layout::DATA_PUTS_AT;
+use layout::HEAD_SIZE;
+use layout::ITEM_AT;
+use layout::ITEMS_AT;
+use layout::KIND_AT;
+use layout::OFF_AT;
+use layout::POLLED_AT;
+use layout::SPARE_AT;
+use layout::STATIONS_AT;
+use layout::TARGET_AT;
+use layout::VALUE_AT;
+use quorum::CONFIG_SIZE;
 
 // The length that a lay needs; 0 for n or m out of range.
 pub fn lay_length(n: u64, m: u64) -> usize

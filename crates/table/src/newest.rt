@@ -56,12 +56,12 @@ fn newest_version(t: &[u8], n: usize, item: usize, set: u16) -> Station
     let mut best = Station::Nobody;
     let mut rest = set;
     while rest != 0 {
-        let s = quorum::lowest(rest);
+        let s = sets::lowest(rest);
         if n <= s {
             return best;
         }
         best = newer_version(t, n, item, best, s);
-        rest = quorum::without_lowest(rest);
+        rest = sets::without_lowest(rest);
     }
     best
 }
@@ -74,12 +74,12 @@ fn newest_generation(t: &[u8], n: usize, item: usize, set: u16) -> Station
     let mut best = Station::Nobody;
     let mut rest = set;
     while rest != 0 {
-        let s = quorum::lowest(rest);
+        let s = sets::lowest(rest);
         if n <= s {
             return best;
         }
         best = newer_generation(t, n, item, best, s);
-        rest = quorum::without_lowest(rest);
+        rest = sets::without_lowest(rest);
     }
     best
 }

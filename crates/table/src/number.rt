@@ -3,12 +3,10 @@ ghost use mathlib.Core.Path.{_≡_};
 ghost use mathlib.Core.List.{_∷_};
 ghost use Prim.Native.Nat.{_+_, _≤_, _<_};
 ghost use lib.ListN.{length, replicate};
-ghost use Rattle.basics.specs.Bytes.{part, number};
-ghost use Rattle.layout.specs.Layout.{configSize};
-ghost use Rattle.layout.specs.Updates.{bytesOf, over};
-
-// The bytes of a configuration.
-pub const CONFIG_SIZE: usize = 32;
+ghost use Rattle.basics.specs.Bytes.{part, number, bytesOf};
+ghost use Rattle.quorum.specs.Configurations.{configSize};
+ghost use Rattle.layout.specs.Updates.{over};
+use quorum::CONFIG_SIZE;
 
 // The number in one byte.
 pub fn byte_at(t: &[u8], at: usize) -> usize
@@ -41,7 +39,7 @@ pub fn u64_at(t: &[u8], at: usize) -> u64
 }
 
 // Writes the bytes of a number, as many as the width says: one store where the width is known.
-fn put_number(t: &mut [u8], at: usize, width: usize, x: u64)
+fn put_bytes(t: &mut [u8], at: usize, width: usize, x: u64)
     requires { ⌜ at + width ≤ length (now t) ⌝ }
     ensures { λ _. ⌜ now (t .exit) ≡ over (now (t .entry)) at (bytesOf width x) ⌝ }
 {
@@ -56,14 +54,14 @@ pub fn put_u16(t: &mut [u8], at: usize, x: u16)
     requires { ⌜ at + 2 ≤ length (now t) ⌝ }
     ensures { λ _. ⌜ now (t .exit) ≡ over (now (t .entry)) at (bytesOf 2 x) ⌝ }
 {
-    put_number(t, at, 2, x as u64)
+    put_bytes(t, at, 2, x as u64)
 }
 
 pub fn put_u64(t: &mut [u8], at: usize, x: u64)
     requires { ⌜ at + 8 ≤ length (now t) ⌝ }
     ensures { λ _. ⌜ now (t .exit) ≡ over (now (t .entry)) at (bytesOf 8 x) ⌝ }
 {
-    put_number(t, at, 8, x)
+    put_bytes(t, at, 8, x)
 }
 
 // Writes zeros, as many as the count says.

@@ -8,7 +8,7 @@ use lib.Dec.{eqb}
 use lib.Bits.{bitOr}
 use Rattle.basics.specs.Tests.{allBelow}
 use Rattle.quorum.specs.Sets.{shares, within, full}
-use Rattle.quorum.specs.Configurations.{setAt, validTo}
+use Rattle.quorum.specs.Configurations.{configSize, setAt, validTo}
 
 -- A set as the pairs are tested, by the set of the next place. An unused place stands for all stations, which share one with every
 -- used set; but one right before a used place stays empty and shares none, so that a gap is found. (That each side has a used place is
@@ -53,7 +53,7 @@ fourWithin n c place =
 -- ---- configurations that stand a stride apart; the bytes named here lie within the list
 -- the 32 bytes a stride further on are those at the place
 unfoldable pub sameAgain : List ℕ → ℕ → ℕ → Bool
-sameAgain bytes at stride = allBelow (λ i. eqb (getD bytes (at + stride + i) 0) (getD bytes (at + i) 0)) 32
+sameAgain bytes at stride = allBelow (λ i. eqb (getD bytes (at + stride + i) 0) (getD bytes (at + i) 0)) configSize
 
 -- the byte one stride further on, two, and so on to eight is that at the place
 unfoldable pub sameLane : List ℕ → ℕ → ℕ → Bool
@@ -61,7 +61,7 @@ sameLane bytes at stride = allBelow (λ j. eqb (getD bytes (at + stride + stride
 
 -- each of the next eight times 32 bytes, a stride apart, are those at the place
 unfoldable pub sameBlock : List ℕ → ℕ → ℕ → Bool
-sameBlock bytes at stride = allBelow (λ i. sameLane bytes (at + i) stride) 32
+sameBlock bytes at stride = allBelow (λ i. sameLane bytes (at + i) stride) configSize
 
 -- if the first `few` configurations are valid, so are the first `more`, for any number of stations
 abbrev pub StillValid : List ℕ → ℕ → ℕ → ℕ → ℕ → Type 0

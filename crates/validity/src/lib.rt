@@ -3,12 +3,14 @@ ghost use mathlib.Core.Path.{_≡_};
 ghost use mathlib.Core.Bool.{true};
 ghost use Prim.Native.Nat.{ℕ, _+_, _-_, _*_, _<_, _≤_};
 ghost use lib.ListN.{length};
-ghost use Rattle.quorum.specs.Configurations.{valid, validTo};
+ghost use Rattle.quorum.specs.Configurations.{configSize, valid, validTo};
 ghost use Rattle.validity.specs.Pairs.{filled, filledSide, rowOk, pairsOk, four, FourFit, outsideOf, fourWithin};
 ghost use Rattle.validity.specs.Pairs.{sameAgain, sameLane, sameBlock, StillValid};
-use quorum::all_stations;
-use quorum::load_set;
-use quorum::share_station;
+use layout::COPY_SIZE;
+use quorum::CONFIG_SIZE;
+use sets::all_stations;
+use sets::load_set;
+use sets::share_station;
 
 // A set as the pairs are tested: an unused place is filled with all stations, which share one with every used set. One right
 // before a used place stays empty and shares none, so a gap fails the test of pairs.
@@ -21,7 +23,7 @@ fn filled(set: u16, next: u16) -> u16
 // The sets of the side that starts at a place, so filled. They are loaded in this order, and the pairs below tested without an
 // early end, so that the compiler keeps each side in one register and tests eight pairs at once.
 fn filled_side(config: &[u8], side: usize) -> [u16; 8]
-    requires { ⌜ (side ≤ 8) × (length (now config) ≡ 32) ⌝ }
+    requires { ⌜ (side ≤ 8) × (length (now config) ≡ configSize) ⌝ }
     ensures { λ r. ⌜ r ≡ filledSide (now (config .entry)) side ⌝ }
 {
     let s7 = load_set(config, side + 7);
@@ -57,7 +59,7 @@ fn row_ok(writes: [u16; 8], read: u16) -> bool
 
 // Whether each filled read set shares a station with each filled write set.
 fn pairs_ok(config: &[u8]) -> bool
-    requires { ⌜ length (now config) ≡ 32 ⌝ }
+    requires { ⌜ length (now config) ≡ configSize ⌝ }
     ensures { λ r. ⌜ r ≡ pairsOk (now (config .entry)) ⌝ }
 {
     let reads = filled_side(config, 0);
@@ -71,7 +73,7 @@ fn pairs_ok(config: &[u8]) -> bool
 
 // Four sets as one number.
 fn load_four(config: &[u8], place: usize) -> u64
-    requires { ⌜ (place ≤ 12) × (length (now config) ≡ 32) ⌝ }
+    requires { ⌜ (place ≤ 12) × (length (now config) ≡ configSize) ⌝ }
     ensures { λ r. ⌜ r ≡ four (now (config .entry)) place ⌝ }
     ensures { λ _. ⌜ FourFit (now (config .entry)) place ⌝ }
 {
@@ -90,7 +92,7 @@ fn outside(n: usize) -> u64
 
 // Whether four sets name no station n or above.
 fn four_within(config: &[u8], place: usize, n: usize) -> bool
-    requires { ⌜ (place ≤ 12) × (n ≤ 16) × (length (now config) ≡ 32) ⌝ }
+    requires { ⌜ (place ≤ 12) × (n ≤ 16) × (length (now config) ≡ configSize) ⌝ }
     ensures { λ r. ⌜ r ≡ fourWithin n (now (config .entry)) place ⌝ }
 {
     load_four(config, place) & outside(n) == 0
@@ -98,7 +100,7 @@ fn four_within(config: &[u8], place: usize, n: usize) -> bool
 
 // Whether 32 bytes are a valid configuration of n stations.
 fn config_ok(config: &[u8], n: usize) -> bool
-    requires { ⌜ (1 ≤ n) × (n ≤ 16) × (length (now config) ≡ 32) ⌝ }
+    requires { ⌜ (1 ≤ n) × (n ≤ 16) × (length (now config) ≡ configSize) ⌝ }
     ensures { λ r. ⌜ r ≡ valid n (now (config .entry)) ⌝ }
 {
     if !pairs_ok(config) {
@@ -115,11 +117,11 @@ fn config_ok(config: &[u8], n: usize) -> bool
 
 // Whether the 32 bytes at a place are those a stride further on.
 fn same_again(bytes: &[u8], at: usize, stride: usize) -> bool
-    requires { ⌜ at + stride + 32 ≤ length (now bytes) ⌝ }
+    requires { ⌜ at + stride + configSize ≤ length (now bytes) ⌝ }
     ensures { λ r. ⌜ r ≡ sameAgain (now (bytes .entry)) at stride ⌝ }
 {
     let mut ok = true;
-    for i in 0..32usize {
+    for i in 0..CONFIG_SIZE {
         ok = ok & (bytes[at + stride + i] == bytes[at + i]);
     }
     ok
@@ -139,11 +141,11 @@ fn same_lane(bytes: &[u8], at: usize, stride: usize) -> bool
 
 // The same for the 32 bytes at a place. No byte is skipped, so that the compiler compares sixteen at once.
 fn same_block(bytes: &[u8], at: usize, stride: usize) -> bool
-    requires { ⌜ (at + 32 ≤ length (now bytes)) × ((j : ℕ) → j < 8 → at + stride + stride * j + 32 ≤ length (now bytes)) ⌝ }
+    requires { ⌜ (at + configSize ≤ length (now bytes)) × ((j : ℕ) → j < 8 → at + stride + stride * j + configSize ≤ length (now bytes)) ⌝ }
     ensures { λ r. ⌜ r ≡ sameBlock (now (bytes .entry)) at stride ⌝ }
 {
     let mut ok = true;
-    for b in 0..32usize {
+    for b in 0..CONFIG_SIZE {
         ok = ok & same_lane(bytes, at + b, stride);
     }
     ok
@@ -159,7 +161,7 @@ fn past_eights(
     from: usize,
     count: usize,
 ) -> usize
-    requires { ⌜ (1 ≤ from) × (from ≤ count) × (count ≤ 1024) × (first ≤ 1) × ((k : ℕ) → k < count → at + stride * k + 32 ≤ length (now bytes)) ⌝ }
+    requires { ⌜ (1 ≤ from) × (from ≤ count) × (count ≤ 1024) × (first ≤ 1) × ((k : ℕ) → k < count → at + stride * k + configSize ≤ length (now bytes)) ⌝ }
     ensures { λ r. ⌜ (from ≤ r) × (r ≤ count) × StillValid (now (bytes .entry)) at stride from r ⌝ }
 {
     if (from + first) % 8 != 3 {
@@ -184,7 +186,7 @@ fn past_same(
     from: usize,
     count: usize,
 ) -> usize
-    requires { ⌜ (1 ≤ from) × (from ≤ count) × (count ≤ 1024) × (first ≤ 1) × ((k : ℕ) → k < count → at + stride * k + 32 ≤ length (now bytes)) ⌝ }
+    requires { ⌜ (1 ≤ from) × (from ≤ count) × (count ≤ 1024) × (first ≤ 1) × ((k : ℕ) → k < count → at + stride * k + configSize ≤ length (now bytes)) ⌝ }
     ensures { λ r. ⌜ (from ≤ r) × (r ≤ count) × StillValid (now (bytes .entry)) at stride from r ⌝ }
 {
     let mut k = from;
@@ -207,7 +209,7 @@ pub fn all_valid(
     count: usize,
     n: usize,
 ) -> bool
-    requires { ⌜ (1 ≤ n) × (n ≤ 16) × (count ≤ 1024) × (first ≤ 1) × ((k : ℕ) → k < count → at + stride * k + 32 ≤ length (now bytes)) ⌝ }
+    requires { ⌜ (1 ≤ n) × (n ≤ 16) × (count ≤ 1024) × (first ≤ 1) × ((k : ℕ) → k < count → at + stride * k + configSize ≤ length (now bytes)) ⌝ }
     ensures { λ r. ⌜ r ≡ validTo n (now (bytes .entry)) at stride count ⌝ }
 {
     // Lent on, so that the compiler hands address and length over in registers.
@@ -215,7 +217,7 @@ pub fn all_valid(
     let mut k = 0;
     while k < count {
         let place = at + stride * k;
-        if !config_ok(&bytes[place..place + 32], n) {
+        if !config_ok(&bytes[place..place + CONFIG_SIZE], n) {
             return false;
         }
         k = past_same(bytes, at, stride, first, k + 1, count);
@@ -223,14 +225,12 @@ pub fn all_valid(
     true
 }
 
-// With one configuration the stride does not matter. It is that of a table's copies, so that the compiler has one number for it.
-const TABLE_STRIDE: usize = 56;
-
-// Whether the bytes are a valid configuration of n stations.
+// Whether the bytes are a valid configuration of n stations. With one configuration the stride does not matter: it is that of a table's
+// copies, so that the compiler has one number for it.
 pub fn is_valid(config: &[u8], n: usize) -> bool
     ensures { λ r. ⌜ r ≡ valid n (now (config .entry)) ⌝ }
 {
-    if config.len() != 32 {
+    if config.len() != CONFIG_SIZE {
         return false;
     }
     if n == 0 {
@@ -239,5 +239,5 @@ pub fn is_valid(config: &[u8], n: usize) -> bool
     if 16 < n {
         return false;
     }
-    all_valid(config, 0, TABLE_STRIDE, 1, 1, n)
+    all_valid(config, 0, COPY_SIZE, 1, 1, n)
 }

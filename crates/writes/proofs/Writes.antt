@@ -11,13 +11,14 @@ use lib.ListN.{length, drop, replicate, length-append, take-append-drop}
 use lib.Seq.{take-all, drop-drop}
 use borrow.Author.Tests.{eqb-true, not-false}
 use Rattle.quorum.specs.Sets.{member}
-use Rattle.basics.specs.Bytes.{part}
+use Rattle.basics.specs.Bytes.{part, bytesOf}
 use Rattle.basics.proofs.Tests.{or-false-left, or-false-right}
 use Rattle.quorum.proofs.Promise.{promise}
-use Rattle.layout.specs.Layout.{headSize, copiesAt, copySize, configSize, address, tableLength}
+use Rattle.quorum.specs.Configurations.{configSize}
+use Rattle.layout.specs.Layout.{headSize, copiesAt, copySize, address, tableLength}
 use Rattle.layout.specs.Fields.{Copy, Round}
 use Rattle.table.specs.Search.{InTable}
-use Rattle.layout.specs.Updates.{bytesOf, over, putData, putConfig, copyBytes, repeated, laid, putCopies}
+use Rattle.layout.specs.Updates.{over, putData, putConfig, copyBytes, repeated, laid, putCopies}
 use Rattle.layout.proofs.Parts.{part-left, part-length, length-over, part-inside, part-whole, length-bytes, over-again, over-append}
 use Rattle.layout.proofs.Writing.{over-all}
 use Rattle.layout.proofs.Fields.{address-head, copy-length}

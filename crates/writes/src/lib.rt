@@ -4,26 +4,27 @@ ghost use mathlib.Core.Bool.{cond};
 ghost use Prim.Native.Nat.{_+_, _*_, _≤_, min};
 ghost use lib.ListN.{length};
 ghost use Rattle.basics.specs.Bytes.{part};
-ghost use Rattle.layout.specs.Layout.{copiesAt, copySize, configSize, tableLength};
+ghost use Rattle.quorum.specs.Configurations.{configSize};
+ghost use Rattle.layout.specs.Layout.{copiesAt, copySize, tableLength};
 ghost use Rattle.layout.specs.Fields.{newCopy};
 ghost use Rattle.table.specs.Search.{InTable};
 ghost use Rattle.layout.specs.Updates.{putData, putConfig, over, copyBytes, repeated, laid, putCopies, closed};
 ghost use Rattle.rounds.specs.Round.{asRound, roundIn};
+use layout::COPIES_AT;
+use layout::COPY_SIZE;
+use layout::HEAD_SIZE;
+use layout::NO_ROUND;
+use layout::OFF_AT;
+use layout::STATIONS_AT;
+use layout::TARGET_AT;
+use quorum::CONFIG_SIZE;
 use rounds::round::Round;
-use table::copy::COPIES_AT;
-use table::copy::COPY_SIZE;
 use table::copy::Generation;
 use table::copy::Version;
 use table::copy::address;
 use table::copy::put_config;
 use table::copy::put_data;
-use table::head::HEAD_SIZE;
-use table::head::NO_ROUND;
-use table::head::OFF_AT;
-use table::head::STATIONS_AT;
-use table::head::TARGET_AT;
 use table::head::set_round;
-use table::number::CONFIG_SIZE;
 use table::number::config_bytes_at;
 use table::number::put_pair;
 
@@ -69,11 +70,11 @@ fn put_each(
     let target = config_bytes_at(t, TARGET_AT);
     for s in 0..n {
         let at = address(n, i, s);
-        put_data_if(t, at, quorum::is_member(round.data_puts, s), version, value);
+        put_data_if(t, at, sets::is_member(round.data_puts, s), version, value);
         put_config_if(
             t,
             at,
-            quorum::is_member(round.config_puts, s),
+            sets::is_member(round.config_puts, s),
             generation,
             target,
         );
