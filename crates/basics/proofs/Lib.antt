@@ -1,2 +1,4 @@
 pub mod Tests
 pub mod Bytes
+pub mod Parts
+pub mod Writing

@@ -8,8 +8,12 @@ use native.Mathlib.Numerals.{add-one}
 use native.Mathlib.Omega.{arith}
 use lib.Dec.{eqb}
 use borrow.Author.Tests.{eqb-true, eqb-false}
-use Rattle.basics.specs.Tests.{all, allBelow, anyBelow}
-use Rattle.basics.specs.Tests.{Some}
+use Rattle.basics.specs.Tests.{all, allBelow, anyBelow, Some}
+
+infixr 40 _also_
+-- a fact before the facts that follow it
+pub _also_ : {A B : Type 0} → A → B → A × B
+a also b = (a, b)
 
 -- ---- one or two tests
 pub clash : {A : Type 0} {b : Bool} → b ≡ true → b ≡ false → A
@@ -19,6 +23,9 @@ clash p q = absurd (true≢false (sym p ∙ q))
 pub by-cases : (P : Bool → Type 0) (b : Bool) → (b ≡ true → P true) → (b ≡ false → P false) → P b
 by-cases P true t f = t refl
 by-cases P false t f = f refl
+
+pub either : {A : Type 0} (b : Bool) → (b ≡ true → A) → (b ≡ false → A) → A
+either {A} b f g = by-cases (λ (x : Bool). A) b f g
 
 -- a test that cannot pass fails
 pub fails : (b : Bool) → (b ≡ true → ⊥) → b ≡ false
@@ -116,9 +123,9 @@ module _ (p : ℕ → Bool) where
   unfolding anyBelow
   below-any zero i l e = absurd (not-suc-le-zero l)
   below-any (suc k) i l e =
-      by-cases (λ (b : Bool). eqb i k ≡ b → (anyBelow p k || p k) ≡ true) (eqb i k)
-      (λ _ q. or-right (anyBelow p k) (p k) (ap p (sym (eqb-true i k q)) ∙ e))
-      (λ _ q. let h : i ≡ k → ⊥ = eqb-false i k q in or-left (anyBelow p k) (p k) (below-any k i (omega arith) e)) refl
+      either (eqb i k)
+      (λ q. or-right (anyBelow p k) (p k) (ap p (sym (eqb-true i k q)) ∙ e))
+      (λ q. let h : i ≡ k → ⊥ = eqb-false i k q in or-left (anyBelow p k) (p k) (below-any k i (omega arith) e))
 
   -- ---- what a loop that counts up and joins its tests by `&` or `|` asks: at its start, at each turn, at its end
   pub all-start : allBelow p 0 ≡ true

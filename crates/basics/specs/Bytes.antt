@@ -1,7 +1,7 @@
--- Parts of a list of bytes, and the numbers in them: "Numbers are least significant byte first."
-use mathlib.Core.List.{List, [], _∷_}
+-- Parts of a list of bytes, the numbers in them, and what is written into it: "Numbers are least significant byte first."
+use mathlib.Core.List.{List, [], _∷_, _++_}
 use Prim.Native.Nat.{ℕ, zero, suc, _+_, _*_, _/_, _%_, _<_}
-use lib.ListN.{take, drop}
+use lib.ListN.{length, take, drop}
 
 -- the bytes from a place on, as many as the width says
 abbrev pub part : List ℕ → ℕ → ℕ → List ℕ
@@ -19,6 +19,10 @@ number t at width = littleEndian (part t at width)
 unfoldable pub bytesOf : ℕ → ℕ → List ℕ
 bytesOf zero x = []
 bytesOf (suc width) x = x % 256 ∷ bytesOf width (x / 256)
+
+-- bytes written from a place on, within the list; every other byte stays as it was
+unfoldable pub over : List ℕ → ℕ → List ℕ → List ℕ
+over t at bytes = take at t ++ (bytes ++ drop (at + length bytes) t)
 
 -- what a slice of bytes can hold
 abbrev pub AreBytes : List ℕ → Type 0

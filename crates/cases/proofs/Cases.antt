@@ -1,7 +1,7 @@
 -- The cases hold: the checker computes every reply from the definitions.
 use mathlib.Core.Path.{refl}
 use Rattle.basics.specs.Tests.{all, allBelow, anyBelow}
-use Rattle.basics.specs.Bytes.{littleEndian, bytesOf}
+use Rattle.basics.specs.Bytes.{littleEndian, bytesOf, over}
 use Rattle.quorum.specs.Sets.{member, used, holds, shares, within, join, minus, remove, full}
 use Rattle.quorum.specs.Configurations.{setAt, readSet, writeSet, usedFirst, someUsed, allWithin, sharesAll, allShare, validity, valid}
 use Rattle.quorum.specs.Configurations.{holdsPlace, holdsRead, holdsWrite}
@@ -10,7 +10,7 @@ use Rattle.layout.specs.Fields.{copyFrom}
 use Rattle.layout.specs.Soundness.{roundSound, copiesValid, soundness, sound}
 use Rattle.layout.specs.Newest.{newest, byVersion, byGeneration, hears}
 use Rattle.layout.specs.View.{view}
-use Rattle.layout.specs.Updates.{over, setOff, setPolled, setPuts, setRound, putData, putConfig, copyBytes, repeated, putCopies}
+use Rattle.layout.specs.Updates.{setOff, setPolled, setPuts, setRound, putData, putConfig, copyBytes, repeated, putCopies}
 use Rattle.rules.specs.Rules.{first, tests, refusals, numberOf}
 use Rattle.rules.specs.Figures.{figuresOf}
 use Rattle.rules.specs.After.{done}

@@ -9,15 +9,15 @@ use lib.Dec.{ltb, leb}
 use lib.ListN.{length, getD, List·getD-eq-default, length-append}
 use borrow.Author.Tests.{lt-ltb, le-ltb, leb-true, leb-false}
 use Rattle.basics.specs.Bytes.{part, number, AreBytes}
-use Rattle.basics.proofs.Tests.{by-cases}
+use Rattle.basics.proofs.Tests.{_also_, by-cases, either}
 use Rattle.quorum.specs.Configurations.{configSize}
-use Rattle.layout.proofs.Parts.{part-left, bytes-part, number-lt}
+use Rattle.basics.proofs.Parts.{part-left, bytes-part, number-lt}
 use Rattle.rules.specs.Calls.{Call}
 use Rattle.rules.specs.Passed.{Passable, Word}
 use Rattle.rules.specs.Reply.{reply, after}
 use Rattle.rules.specs.declared.Reply.{Reply}
 use Rattle.dispatch.specs.Dispatch.{lengths, longest, frameLength, callsOf, callAt, replyOr, afterOr}
-use Rattle.dispatch.proofs.Entries.{entry, Each, each-at, _also_}
+use Rattle.dispatch.proofs.Entries.{entry, Each, each-at}
 
 -- the longest frame
 pub frame-length-le : (code : ℕ) → frameLength code ≤ longest
@@ -60,12 +60,12 @@ no-code arguments = enough 0 arguments (omega arith)
 pub other-code : (code : ℕ) (arguments : List ℕ) → NoneOf code 10 → callAt code arguments ≡ none
 unfolding frameLength callsOf
 other-code code arguments n =
-    by-cases (λ (b : Bool). leb code 10 ≡ b → callAt code arguments ≡ none) (leb code 10)
-    (λ _ e. rw (code-zero code 10 n (leb-true code 10 e)) (no-code arguments))
-    (λ _ e.
+    either (leb code 10)
+    (λ e. rw (code-zero code 10 n (leb-true code 10 e)) (no-code arguments))
+    (λ e.
     let past = leb-false code 10 e in
     let z : frameLength code ≡ 0 = List·getD-eq-default lengths 0 past in
-    enough code arguments (omega arith) ∙ past-codes arguments code past) refl
+    enough code arguments (omega arith) ∙ past-codes arguments code past)
 
 -- ---- every call of bytes is one that a caller can pass
 abbrev MaybePassable : Option Call → Type 0
@@ -73,7 +73,7 @@ MaybePassable none = Unit {0}
 MaybePassable (some c) = Passable c
 
 module _ (arguments : List ℕ) (h : AreBytes arguments) where
-  large : (at : ℕ) → Word (number arguments at 8)
+  pub large : (at : ℕ) → Word (number arguments at 8)
   large at = let l = number-lt arguments at 8 h in omega arith
 
   all-passable : Each (λ code. MaybePassable) (callsOf arguments)

@@ -23,10 +23,6 @@ abbrev pub Each : {A : Type 0} → (ℕ → A → Type 0) → List A → Type 0
 Each P [] = Unit {0}
 Each P (x ∷ xs) = P 0 x × Each (λ k. P (suc k)) xs
 
-infixr 40 _also_
-pub _also_ : {A B : Type 0} → A → B → A × B
-a also b = (a, b)
-
 -- past the end stands the default
 pub each-at : {A : Type 0} (P : ℕ → A → Type 0) (xs : List A) (d : A) → Each P xs → ((k : ℕ) → length xs ≤ k → P k d) → (k : ℕ)
     → P k (getD xs k d)

@@ -4,9 +4,9 @@ use mathlib.Core.List.{List, [], _∷_, _++_}
 use Prim.Native.Nat.{ℕ, _+_, _-_, _≤_, _<_}
 use native.Mathlib.Omega.{arith}
 use lib.ListN.{length, take, drop, length-append, length-take}
-use lib.Seq.{take-all, take-add, drop-drop}
-use Rattle.layout.specs.Updates.{over}
-use Rattle.layout.proofs.Parts.{over-nil, over-append}
+use lib.Seq.{take-add, drop-drop}
+use Rattle.basics.specs.Bytes.{over}
+use Rattle.basics.proofs.Parts.{over-nil, over-append}
 use Rattle.runs.specs.Session.{tableAfter, printed}
 use Rattle.replies.specs.ReplyLine.{replyLineSize}
 use Rattle.runs.specs.Pieces.{enough, clip, afterPiece, printedBy, printedLast, tableLast}
@@ -14,6 +14,7 @@ use Rattle.lines.specs.Splitting.{endFrom, stretch}
 use Rattle.feeding.specs.Buffers.{inHand, Fits, HasRoom, AnswersLine, Takes, Ends}
 use Rattle.feeding.specs.declared.Fed.{Fed}
 use Rattle.replies.proofs.ReplyLine.{reply-length}
+use Rattle.runs.proofs.Clipped.{clip-all}
 use Rattle.runs.proofs.Pieces.{keeps, after-append, printed-append, table-clip, printed-clip}
 use Rattle.lines.proofs.Stretches.{end-forward, ended-stretch, cut-stretch}
 
@@ -81,10 +82,6 @@ module _ (t bytes line : List ℕ) (same : clip bytes ≡ clip line) where
   same-printed : printed t bytes ≡ printed t line
   same-printed = sym (printed-clip t bytes) ∙ ap (printed t) same ∙ printed-clip t line
 
-pub clip-short : (l : List ℕ) → length l ≤ enough → clip l ≡ l
-unfolding clip
-clip-short l h = take-all enough l h
-
 module _ (piece table line out : List ℕ) (s : Fed) (end : ℕ) (found : end ≡ endFrom piece (s .at)) (fits : Fits table line out s) where
   -- the line so far, with the stretch
   abbrev so-far : List ℕ
@@ -93,7 +90,7 @@ module _ (piece table line out : List ℕ) (s : Fed) (end : ℕ) (found : end �
   begins : keeps (take (s .used) table) (take (s .len) line) ≡ inHand table (s .used) line (s .len)
   begins =
       let short : length (take (s .len) line) ≤ enough = rw length-take (omega (arith, fits .line-fits)) in
-      λ i. record { table = take (s .used) table; line = clip-short (take (s .len) line) short i }
+      λ i. record { table = take (s .used) table; line = clip-all (take (s .len) line) short i }
 
   -- up to the end of the piece: what is kept of the line is in hand
   pub took-part : (line' : List ℕ) (len' : ℕ) → len' ≤ enough → take len' line' ≡ clip so-far → length line' ≡ length line

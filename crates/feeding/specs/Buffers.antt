@@ -3,7 +3,7 @@ use mathlib.Core.Path.{_≡_}
 use mathlib.Core.List.{List}
 use Prim.Native.Nat.{ℕ, _+_, _≤_}
 use lib.ListN.{length, take}
-use Rattle.layout.specs.Updates.{over}
+use Rattle.basics.specs.Bytes.{over}
 use Rattle.runs.specs.Session.{tableAfter, printed}
 use Rattle.replies.specs.ReplyLine.{replyLineSize}
 use Rattle.runs.specs.Pieces.{enough, InHand, afterPiece, printedBy, printedLast, afterLast}

@@ -9,13 +9,13 @@ use lib.ListN.{length, getD, take, drop, length-drop, drop-of-length-le, take-ap
 use lib.Seq.{take-all, drop-cons, drop-drop}
 use Rattle.basics.specs.Bytes.{part, littleEndian, number, AreBytes, bytesOf}
 use Rattle.quorum.specs.Configurations.{configSize}
-use Rattle.layout.proofs.Numbers.{number-one}
-use Rattle.layout.proofs.Parts.{part-length, read-bytes, bytes-of, bytes-append, bytes-drop, bytes-part, number-lt}
+use Rattle.basics.proofs.Bytes.{number-one}
+use Rattle.basics.proofs.Tests.{_also_}
+use Rattle.basics.proofs.Parts.{part-length, read-bytes, bytes-of, bytes-append, bytes-drop, bytes-part, number-lt, number-bytes}
 use Rattle.rules.specs.Calls.{Call, lay, openRead, openWrite, openChange, poll, put, commit, abandon, link, reach}
-use Rattle.rules.specs.Passed.{Word}
 use Rattle.dispatch.specs.Dispatch.{frameLength, callsOf, callAt}
-use Rattle.dispatch.proofs.Entries.{Each, each-at, _also_}
-use Rattle.dispatch.proofs.Codes.{enough, at-code}
+use Rattle.dispatch.proofs.Entries.{Each, each-at}
+use Rattle.dispatch.proofs.Codes.{enough, at-code, large}
 use Rattle.frames.specs.Hex.{allDigits, bytesIn, hexOf}
 use Rattle.frames.specs.Frame.{callByte, argumentsIn, callOf, frameOf, IsByte, IsConfig, Framable}
 use Rattle.frames.proofs.Digits.{digit-is-digit, hex-length, read-back, shown-again, bytes-in}
@@ -67,16 +67,6 @@ has-frame (link s state) h = call-of-bytes 9 (s ∷ state ∷ []) (omega arith, 
 has-frame (reach i) h = call-of-bytes 10 (i ∷ []) (omega arith, (h, tt)) refl ∙ rw (one-byte i)
 
 -- ---- a line that stands for a call is its frame
--- a number is written back as the bytes that it was read from
-written-back : (l : List ℕ) → AreBytes l → bytesOf (length l) (littleEndian l) ≡ l
-unfolding bytesOf littleEndian
-written-back [] h = refl
-written-back (b ∷ l) h =
-    let small = h .0 in
-    let low : (b + 256 * littleEndian l) % 256 ≡ b = omega arith in
-    let high : (b + 256 * littleEndian l) / 256 ≡ littleEndian l = omega arith in
-    rw (low, high, written-back l (h .1))
-
 abbrev FrameIs : List ℕ → ℕ → Option Call → Type 0
 FrameIs arguments code none = Unit {0}
 FrameIs arguments code (some c) = (frameOf c ≡ code ∷ arguments) × Framable c
@@ -90,8 +80,7 @@ module _ (arguments : List ℕ) (h : AreBytes arguments) where
   value-here : (at : ℕ) (rest : List ℕ) → at + 8 ≤ length arguments → drop (at + 8) arguments ≡ rest
       → drop at arguments ≡ bytesOf 8 (number arguments at 8) ++ rest
   value-here at rest l e =
-      let back = rw (part-length arguments at 8 l) at (written-back (part arguments at 8) (bytes-part arguments at 8 h)) in
-      rw back (rw (← e, ← drop-drop 8 at arguments) (sym (take-append-drop 8 (drop at arguments))))
+      rw (number-bytes arguments at 8 h l) (rw (← e, ← drop-drop 8 at arguments) (sym (take-append-drop 8 (drop at arguments))))
 
   config-here : (at : ℕ) → length arguments ≡ at + configSize → drop at arguments ≡ part arguments at configSize
   config-here at e = sym (take-all configSize (drop at arguments) (simp length-drop (omega arith)))
@@ -114,9 +103,6 @@ module _ (arguments : List ℕ) (h : AreBytes arguments) where
   small : (at : ℕ) → IsByte (number arguments at 1)
   small at = let l = number-lt arguments at 1 h in omega arith
 
-  large : (at : ℕ) → Word (number arguments at 8)
-  large at = let l = number-lt arguments at 8 h in omega arith
-
   whole : (at : ℕ) → length arguments ≡ at + configSize → IsConfig (part arguments at configSize)
   whole at e = (part-length arguments at configSize (omega arith), bytes-part arguments at configSize h)
 
@@ -127,9 +113,9 @@ module _ (arguments : List ℕ) (h : AreBytes arguments) where
       also (λ e.
       let n = config-here 10 (omega arith) in
       let parts = byte-here 0 _ (omega arith) (byte-here 1 _ (omega arith) (value-here 2 _ (omega arith) n)) in
-      (leads 1 parts, (small 0, small 1, large 2, whole 10 (omega arith))))
+      (leads 1 parts, (small 0, small 1, large arguments h 2, whole 10 (omega arith))))
       also (λ e. (leads 2 (byte-only e), small 0))
-      also (λ e. (leads 3 (byte-here 0 _ (omega arith) (value-only 1 (omega arith))), (small 0, large 1)))
+      also (λ e. (leads 3 (byte-here 0 _ (omega arith) (value-only 1 (omega arith))), (small 0, large arguments h 1)))
       also (λ e. (leads 4 (byte-here 0 _ (omega arith) (config-here 1 (omega arith))), (small 0, whole 1 (omega arith))))
       also (λ e. (leads 5 (byte-only e), small 0))
       also (λ e. (leads 6 (two-bytes e), (small 0, small 1)))

@@ -8,7 +8,7 @@ use lib.Dec.{ltb, leb}
 use lib.ListN.{length}
 use borrow.Author.Tests.{le-leb, lt-leb, lt-ltb, le-ltb, leb-true, ltb-true, ltb-false}
 use Rattle.basics.specs.Bytes.{AreBytes}
-use Rattle.basics.proofs.Tests.{by-cases, clash, and-left, and-right, or-cases, or-right}
+use Rattle.basics.proofs.Tests.{by-cases, clash, and-left, and-right, or-cases, or-right, either}
 use Rattle.frames.specs.Hex.{isDigit, allDigits, valueOf, byteOf, bytesIn, digitOf, hexOf}
 use Rattle.frames.specs.Reading.{valueOr, ofValues, byteOr}
 
@@ -52,7 +52,7 @@ digit-letter v h = rw (le-ltb v 10 h)
 -- a value below 16, as a number or a letter
 value-cases : {A : Type 0} (v : ℕ) → (v < 10 → A) → (10 ≤ v → A) → A
 value-cases {A} v f g =
-    by-cases (λ (b : Bool). ltb v 10 ≡ b → A) (ltb v 10) (λ _ e. f (ltb-true v 10 e)) (λ _ e. g (ltb-false v 10 e)) refl
+    either (ltb v 10) (λ e. f (ltb-true v 10 e)) (λ e. g (ltb-false v 10 e))
 
 pub digit-is-digit : (v : ℕ) → v < 16 → isDigit (digitOf v) ≡ true
 digit-is-digit v h =
@@ -125,15 +125,11 @@ no-value : (c : ℕ) → isDigit c ≡ false → valueOr c ≡ 255
 unfolding valueOr
 no-value c e = rw e
 
--- by whether it is a digit
-by-digit : {A : Type 0} (c : ℕ) → (isDigit c ≡ true → A) → (isDigit c ≡ false → A) → A
-by-digit {A} c f g = by-cases (λ (b : Bool). isDigit c ≡ b → A) (isDigit c) (λ _ e. f e) (λ _ e. g e) refl
-
 small-digit : (c : ℕ) → valueOr c ≤ 15 → isDigit c ≡ true
-small-digit c h = by-digit c (λ e. e) (λ e. absurd (omega (arith, no-value c e)))
+small-digit c h = either (isDigit c) (λ e. e) (λ e. absurd (omega (arith, no-value c e)))
 
 large-none : (c : ℕ) → 15 < valueOr c → isDigit c ≡ false
-large-none c h = by-digit c (λ e. absurd (omega (arith, value-or c e, value-lt c e))) (λ e. e)
+large-none c h = either (isDigit c) (λ e. absurd (omega (arith, value-or c e, value-lt c e))) (λ e. e)
 
 -- ---- two characters: a byte, or none
 module _ (high low : ℕ) where
@@ -146,8 +142,8 @@ module _ (high low : ℕ) where
   one-none : (isDigit high && isDigit low) ≡ false → byteOr high low ≡ 256
   one-none e =
       let some-large : (ltb 15 (valueOr high) || ltb 15 (valueOr low)) ≡ true =
-      by-digit high
-      (λ p. by-digit low (λ q. clash (rw (p, q)) e) (λ q. or-right (ltb 15 (valueOr high)) (ltb 15 (valueOr low)) (rw (no-value low q))))
+      either (isDigit high)
+      (λ p. either (isDigit low) (λ q. clash (rw (p, q)) e) (λ q. or-right (ltb 15 (valueOr high)) (ltb 15 (valueOr low)) (rw (no-value low q))))
       (λ p. rw (no-value high p))
       in
       rw some-large
@@ -158,14 +154,14 @@ module _ (high low : ℕ) where
   -- what is below 256 is the byte of two digits
   pub small-byte : byteOr high low ≤ 255 → (isDigit high ≡ true) × (isDigit low ≡ true) × (byteOr high low ≡ byteOf high low)
   small-byte h =
-      by-digit high
-      (λ p. by-digit low (λ q. (p, q, both p q)) (λ q. absurd (omega (arith, one-none (rw q (and-false (isDigit high)))))))
+      either (isDigit high)
+      (λ p. either (isDigit low) (λ q. (p, q, both p q)) (λ q. absurd (omega (arith, one-none (rw q (and-false (isDigit high)))))))
       (λ p. absurd (omega (arith, one-none (rw p))))
 
   pub large-byte : 255 < byteOr high low → (isDigit high && isDigit low) ≡ false
   large-byte h =
-      by-digit high
-      (λ p. by-digit low (λ q. absurd (omega (arith, both p q, byte-lt high low))) (λ q. rw q (and-false (isDigit high))))
+      either (isDigit high)
+      (λ p. either (isDigit low) (λ q. absurd (omega (arith, both p q, byte-lt high low))) (λ q. rw q (and-false (isDigit high))))
       (λ p. rw p)
 
   pub byte-of-none : 255 < byteOr high low → byteOf high low ≡ 0
@@ -192,7 +188,7 @@ NoNumber c = Besides (Unit {0}) c 48 10
 
 pub no-digit : (c : ℕ) → Besides (NoNumber c) c 65 6 → valueOr c ≡ 255
 no-digit c n =
-    by-digit c
+    either (isDigit c)
     (λ e.
     absurd
     (digit-cases c e (λ a b. not-within (Unit {0}) c 48 10 (beside (NoNumber c) c 65 6 n) a (omega arith))

@@ -8,8 +8,8 @@ use native.Mathlib.Omega.{arith}
 use lib.Dec.{ltb, eqb}
 use lib.ListN.{length, getD}
 use borrow.Author.Tests.{lt-ltb, ltb-true, eq-eqb, eqb-true}
-use Rattle.basics.proofs.Tests.{by-cases, and-left, and-right}
-use Rattle.layout.proofs.Parts.{bytes-drop}
+use Rattle.basics.proofs.Tests.{by-cases, and-left, and-right, fails}
+use Rattle.basics.proofs.Parts.{bytes-drop}
 use Rattle.rules.specs.Calls.{Call}
 use Rattle.rules.specs.Passed.{Passable}
 use Rattle.frames.specs.Hex.{allDigits, byteOf, bytesIn}
@@ -43,7 +43,7 @@ is-frame line f = rw (lt-ltb 0 _ (f .has-call), eq-eqb (length line) _ (f .its-l
 
 -- what breaks one of the three makes it none
 pub not-frame : (line : List ℕ) → (Framed line → ⊥) → isFrame line ≡ false
-not-frame line f = by-cases (λ (b : Bool). b ≡ false) (isFrame line) (λ e. absurd (f (framed line e))) (λ e. refl)
+not-frame line f = fails (isFrame line) (λ e. f (framed line e))
 
 -- ---- its call byte
 pub short-call : (line : List ℕ) → length line < 2 → callByte line ≡ 0

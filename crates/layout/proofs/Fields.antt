@@ -9,17 +9,17 @@ use lib.Dec.{leb}
 use lib.ListN.{length, replicate, length-append}
 use lib.Seq.{take-all}
 use borrow.Author.Tests.{leb-true, le-leb}
-use Rattle.basics.specs.Bytes.{part, littleEndian, number, AreBytes, bytesOf}
+use Rattle.basics.specs.Bytes.{part, littleEndian, number, AreBytes, bytesOf, over}
 use Rattle.basics.proofs.Tests.{or-cases, or-left, or-right}
 use Rattle.layout.specs.Layout.{headSize, stationsAt, itemsAt, offAt, kindAt, itemAt, polledAt, dataPutsAt, configPutsAt, spareAt, valueAt}
 use Rattle.layout.specs.Layout.{targetAt}
 use Rattle.quorum.specs.Configurations.{configSize}
 use Rattle.layout.specs.Layout.{copySize, copyVersionAt, copyValueAt, copyGenerationAt, copyConfigAt, address, tableLength}
-use Rattle.layout.specs.Fields.{Copy, Kind, kindOf, Round, stations, items, offSet, roundOf, copyFrom, copyOf}
+use Rattle.layout.specs.Fields.{Copy, kindOf, stations, items, offSet, roundOf, copyFrom, copyOf}
 use Rattle.layout.specs.Rounds.{withPolled, withPuts, opened}
-use Rattle.layout.specs.Updates.{over, setOff, setPolled, setPuts, setRound, putData, putConfig, copyBytes}
-use Rattle.layout.proofs.Parts.{part-left, part-right, length-over, part-inside, part-whole, part-before, part-after}
-use Rattle.layout.proofs.Parts.{length-bytes, read-bytes, bytes-append, bytes-of, bytes-zeros, bytes-over}
+use Rattle.layout.specs.Updates.{setOff, setPolled, setPuts, setRound, putData, putConfig, copyBytes}
+use Rattle.basics.proofs.Parts.{part-left, part-right, part-length, length-over, part-inside, part-whole, part-before, part-after}
+use Rattle.basics.proofs.Parts.{length-bytes, read-bytes, bytes-append, bytes-of, bytes-zeros, bytes-over}
 
 -- ---- u is t but for some bytes
 -- the k bytes from b on lie outside the bytes from a up to e
@@ -98,6 +98,10 @@ round-kept {a} {e} {t} {u} f o p =
 
     second : (b k : ℕ) → valueAt ≤ b → b + k ≤ headSize → outside a e b k ≡ true
     second b k h j = inner a e a e valueAt 40 b k (le-refl a) (le-refl e) h j p
+
+-- the target of a table that has its head
+pub target-length : (t : List ℕ) → headSize ≤ length t → length (roundOf t .target) ≡ configSize
+target-length t h = part-length t targetAt configSize h
 
 -- ---- u is t but for the head after its first two bytes
 abbrev pub HeadOnly : List ℕ → List ℕ → Type 0

@@ -11,7 +11,7 @@ use lib.Dec.{ltb}
 use borrow.Author.Tests.{ltb-true, ltb-false}
 use Rattle.quorum.specs.Sets.{member}
 use Rattle.quorum.specs.Configurations.{holdsRead}
-use Rattle.basics.proofs.Tests.{clash, by-cases, below-suc}
+use Rattle.basics.proofs.Tests.{clash, below-suc, either}
 use Rattle.quorum.proofs.Promise.{promise}
 use Rattle.layout.specs.Fields.{Copy}
 use Rattle.layout.specs.Newest.{newest, newer, IsNewest, NewestExactly, copyOr, byVersion, byGeneration, hears}
@@ -63,9 +63,9 @@ module _ (key : ℕ → ℕ) (set : ℕ) where
     -- there is one newest: of two, neither is the lower
     not-lower : (a b : ℕ) → IsNewest key set n a → IsNewest key set n b → b ≤ a
     not-lower a b p q =
-        by-cases (λ (t : Bool). ltb a b ≡ t → b ≤ a) (ltb a b)
-        (λ _ e. let l = q .lowest a (ltb-true a b e) (p .isPolled) in let g = p .greatest b (q .station) (q .isPolled) in absurd (omega arith))
-        (λ _ e. ltb-false a b e) refl
+        either (ltb a b)
+        (λ e. let l = q .lowest a (ltb-true a b e) (p .isPolled) in let g = p .greatest b (q .station) (q .isPolled) in absurd (omega arith))
+        (λ e. ltb-false a b e)
 
     pub same-newest : (a b : ℕ) → IsNewest key set n a → IsNewest key set n b → a ≡ b
     same-newest a b p q = le-antisymm (not-lower b a q p) (not-lower a b p q)

@@ -1,13 +1,13 @@
 -- The sizes that a table can have, and the length that a lay needs.
 use mathlib.Core.Path.{_≡_, refl}
-use mathlib.Core.Bool.{Bool, true, false, _&&_}
+use mathlib.Core.Bool.{true, _&&_}
 use mathlib.Core.Logic.{_↔_}
 use Prim.Native.Nat.{ℕ, _*_, _≤_}
 use native.Mathlib.Omega.{arith}
 use native.Mathlib.Nat.{mul-le-mul}
 use lib.Dec.{leb}
 use borrow.Author.Tests.{le-leb, leb-true}
-use Rattle.basics.proofs.Tests.{clash, by-cases, fails, and-left, and-right, and-both}
+use Rattle.basics.proofs.Tests.{clash, fails, and-left, and-right, and-both, either}
 use Rattle.layout.specs.Layout.{tableLength, largest, listed, layLength}
 
 -- n and m are listed
@@ -38,7 +38,7 @@ lay-length-in n m s = rw (sized n m .1 s)
 -- sized or not
 by-size : {A : Type 0} (n m : ℕ) → (Sized n m → A) → ((Sized n m → ⊥) → A) → A
 by-size {A} n m f g =
-    by-cases (λ (b : Bool). listed n m ≡ b → A) (listed n m) (λ _ e. f (sized n m .0 e)) (λ _ e. g (λ s. clash (sized n m .1 s) e)) refl
+    either (listed n m) (λ e. f (sized n m .0 e)) (λ e. g (λ s. clash (sized n m .1 s) e))
 
 pub product-le : (n m : ℕ) → n ≤ 16 → m ≤ 32 → n * m ≤ 512
 product-le n m a b = mul-le-mul a b

@@ -1,31 +1,25 @@
 -- A sound table, as facts: those of the state that it is viewed as, and those of the bytes that the state does not show.
 use mathlib.Core.Path.{_≡_, ap, _∙_}
-use mathlib.Core.Bool.{Bool, true, false, not, _&&_}
+use mathlib.Core.Bool.{Bool, true, not, _&&_}
 use mathlib.Core.List.{List}
 use mathlib.Core.Logic.{_↔_}
-use Prim.Native.Nat.{ℕ, zero, suc, _+_, _*_, _≤_, _<_}
+use Prim.Native.Nat.{ℕ, zero, suc, _+_, _*_, _≤_}
 use native.Mathlib.Omega.{arith}
 use native.Mathlib.Nat.{add-zero, zero-add}
 use lib.ListN.{length, getD}
 use lib.Dec.{eqb}
 use borrow.Author.Tests.{leb-true, le-leb, ltb-true, lt-ltb, eqb-true, eq-eqb, not-true}
-use Rattle.basics.specs.Bytes.{littleEndian, number}
-use Rattle.quorum.specs.Sets.{shares, within}
-use Rattle.quorum.specs.Configurations.{valid, configSize}
+use Rattle.basics.specs.Bytes.{number}
+use Rattle.quorum.specs.Configurations.{configSize}
 use Rattle.basics.proofs.Bytes.{number-none, number-suc}
-use Rattle.basics.proofs.Tests.{and-left, and-right, and-both, all-true, true-all, all-below, below-all}
+use Rattle.basics.proofs.Tests.{_also_, and-left, and-right, and-both, all-true, true-all, all-below, below-all}
 use Rattle.layout.proofs.Fields.{table-head}
-use Rattle.layout.specs.Layout.{headSize, tableLength, kindAt, itemAt, polledAt, dataPutsAt, configPutsAt, spareAt, valueAt, targetAt}
-use Rattle.layout.specs.Fields.{Kind, none, read, write, change, Round, stations, items, roundOf}
+use Rattle.layout.specs.Layout.{headSize, itemAt, polledAt, dataPutsAt, configPutsAt, valueAt, targetAt}
+use Rattle.layout.specs.Fields.{Kind, none, read, write, change, stations, items, roundOf}
 use Rattle.layout.specs.Soundness.{roundSound, copiesValid, soundness, sound}
-use Rattle.layout.specs.View.{State, view}
+use Rattle.layout.specs.View.{view}
 pub use Rattle.layout.specs.SoundFacts.{RoundFacts, StateSound, Sound}
 use Rattle.layout.specs.SoundFacts.{SoundExactly}
-
-infixr 20 _&_
--- a fact before the facts that follow it
-_&_ : {A B : Type 0} → A → B → A × B
-a & b = (a, b)
 
 -- ---- zero bytes
 -- a number is zero where both of its parts are
@@ -121,10 +115,10 @@ module _ (t : List ℕ) where
   unfolding sound soundness copiesValid view
   facts-sound f =
       let v = f .state in
-      true-all (soundness t) (eq-eqb _ _ (f .size) & le-leb _ _ (v .positive) & le-leb _ _ (v .small) & le-leb _ _ (v .someItem) & le-leb _ _ (v .fewItems)
-      & le-leb _ _ (f .kind) & lt-ltb _ _ (v .item) & v .off & v .polled & v .dataPuts & v .configPuts & ap not (v .dataOn) & ap not (v .configOn)
-      & facts-round (roundOf t .kind) (v .round) & eq-eqb _ _ (f .spare)
-      & below-all _ (items t) (λ i h. below-all _ (stations t) (λ s k. v .configs i s h k)) & tt)
+      true-all (soundness t) (eq-eqb _ _ (f .size) also le-leb _ _ (v .positive) also le-leb _ _ (v .small) also le-leb _ _ (v .someItem)
+      also le-leb _ _ (v .fewItems) also le-leb _ _ (f .kind) also lt-ltb _ _ (v .item) also v .off also v .polled also v .dataPuts also v .configPuts
+      also ap not (v .dataOn) also ap not (v .configOn) also facts-round (roundOf t .kind) (v .round) also eq-eqb _ _ (f .spare)
+      also below-all _ (items t) (λ i h. below-all _ (stations t) (λ s k. v .configs i s h k)) also tt)
 
 -- the same by the view's test, of the table and of its state
 pub sound-table : (t : List ℕ) → view t .isSound ≡ true → Sound t

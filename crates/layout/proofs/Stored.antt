@@ -8,21 +8,21 @@ use native.Mathlib.Nat.{add-zero, mul-le-mul-right, le-refl, not-suc-le-zero}
 use lib.Dec.{ltb, eqb}
 use lib.ListN.{length, replicate, length-append}
 use borrow.Author.Tests.{ltb-true, ltb-false, eqb-true, eqb-false}
-use Rattle.basics.specs.Bytes.{part, littleEndian, AreBytes}
+use Rattle.basics.specs.Bytes.{littleEndian, AreBytes}
 use Rattle.quorum.specs.Sets.{member}
 use Rattle.basics.proofs.Tests.{below-suc}
 use Rattle.layout.specs.Layout.{headSize, copiesAt, stationsAt, itemsAt, offAt, kindAt, spareAt, valueAt, targetAt}
 use Rattle.quorum.specs.Configurations.{configSize}
-use Rattle.layout.specs.Layout.{copySize, address, tableLength}
-use Rattle.layout.specs.Fields.{Copy, none, Round, stations, copyFrom}
+use Rattle.layout.specs.Layout.{copySize, copyVersionAt, copyValueAt, copyGenerationAt, address, tableLength}
+use Rattle.layout.specs.Fields.{Copy, none, Round, stations, roundOf, copyFrom}
 use Rattle.layout.specs.View.{State}
 use Rattle.layout.specs.Rounds.{opened}
 use Rattle.layout.specs.Updates.{noTarget, putData, copyBytes, repeated, laid, putCopy, putCopies}
-use Rattle.layout.proofs.Parts.{part-length, bytes-append, bytes-zeros, bytes-part}
-use Rattle.layout.proofs.Fields.{outside, Only, only-none, only-trans, only-wider, number-kept, copy-kept, round-kept}
-use Rattle.layout.proofs.Fields.{outside-before, outside-after, address-head, address-suc, address-fits, address-order, address-later, table-head}
+use Rattle.basics.proofs.Parts.{number-lt, bytes-append, bytes-zeros, bytes-part}
+use Rattle.layout.proofs.Fields.{outside, outside-before, outside-after, Only, only-none, only-trans, only-wider, number-kept, copy-kept, round-kept}
+use Rattle.layout.proofs.Fields.{address-head, address-suc, address-fits, address-order, address-later}
 use Rattle.layout.proofs.Fields.{data-only, data-copy, config-only, config-copy, data-bytes, config-bytes}
-use Rattle.layout.proofs.Fields.{copy-left, copy-right, copy-length, copy-bytes, copy-read}
+use Rattle.layout.proofs.Fields.{table-head, target-length, copy-left, copy-right, copy-length, copy-bytes, copy-read}
 use Rattle.layout.proofs.Held.{Holds, withCopies}
 
 -- a copy with what is stored at it: version and value by a data put, generation and configuration by a configuration put
@@ -40,6 +40,20 @@ pub record Small (new : Copy) : Type 0 where
   pub value : new .value < 2 ^ 64
   pub version : new .version < 2 ^ 64
   pub generation : new .generation < 2 ^ 64
+
+-- those of a table of bytes do, and so does a round's value
+module _ (t : List ℕ) (b : AreBytes t) where
+  pub copy-small : (at : ℕ) → Small (copyFrom t at)
+  unfolding copyFrom
+  copy-small at =
+      record {
+        value = number-lt t (at + copyValueAt) 8 b;
+        version = number-lt t (at + copyVersionAt) 8 b;
+        generation = number-lt t (at + copyGenerationAt) 8 b;
+      }
+
+  pub value-small : roundOf t .value < 2 ^ 64
+  value-small = number-lt t valueAt 8 b
 
 -- ---- one copy
 module _ (t : List ℕ) (at : ℕ) (new : Copy) (fits : at + copySize ≤ length t) (long : length (new .config) ≡ configSize) where
@@ -157,7 +171,7 @@ module _ (t : List ℕ) (v : State) (new : Copy) (isTarget : new .config ≡ v .
   u = putCopies t (v .n) (v .round) new (v .n)
 
   long : length (new .config) ≡ configSize
-  long = rw (isTarget, ← h .round) (part-length t targetAt configSize (rw (h .size) (table-head (v .n) (v .m))))
+  long = rw (isTarget, ← h .round) (target-length t (rw (h .size) (table-head (v .n) (v .m))))
 
   only : Only (address (v .n) (v .round .item) 0) (address (v .n) (v .round .item) (v .n)) t u
   only = put-only t (v .n) (v .round) new (v .m) (h .size) item long (v .n) (le-refl (v .n))

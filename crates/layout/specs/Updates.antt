@@ -1,17 +1,13 @@
 -- What is written into the table's bytes.
 use mathlib.Core.Bool.{Bool, cond}
 use mathlib.Core.List.{List, [], _∷_, _++_}
-use Prim.Native.Nat.{ℕ, zero, suc, _+_, _-_, _*_, _/_, _%_}
-use lib.ListN.{length, take, drop, replicate}
-use Rattle.basics.specs.Bytes.{bytesOf}
+use Prim.Native.Nat.{ℕ, zero, suc, _+_, _-_, _*_}
+use lib.ListN.{replicate}
+use Rattle.basics.specs.Bytes.{bytesOf, over}
 use Rattle.quorum.specs.Sets.{member}
 use Rattle.quorum.specs.Configurations.{configSize}
 use Rattle.layout.specs.Layout.{headSize, offAt, kindAt, polledAt, dataPutsAt, spareAt, valueAt, copyVersionAt, copyGenerationAt, address}
 use Rattle.layout.specs.Fields.{Copy, none, kindByte, Round}
-
--- bytes written from a place on, within the list; every other byte stays as it was
-unfoldable pub over : List ℕ → ℕ → List ℕ → List ℕ
-over t at bytes = take at t ++ (bytes ++ drop (at + length bytes) t)
 
 -- ---- the head
 unfoldable pub setOff : List ℕ → ℕ → List ℕ

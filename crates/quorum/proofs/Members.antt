@@ -1,19 +1,19 @@
 -- Station sets by their members.
 use mathlib.Core.Path.{_≡_, refl, sym, ap, _∙_}
-use mathlib.Core.Bool.{Bool, true, false, not, _&&_, _||_, and-true, and-false}
+use mathlib.Core.Bool.{Bool, true, false, not, _&&_, _||_}
 use Prim.Native.Nat.{ℕ, zero, suc, _+_, _-_, _*_, _/_, _%_, _^_, _≤_, _<_, min, max}
 use mathlib.Core.Logic.{_↔_}
-use native.Mathlib.Nat.{not-suc-le-zero, div-one, zero-div, min-eq-left, min-eq-right, one-mul, mod-eq-of-lt, le-of-lt, div-lt-iff-lt-mul}
+use native.Mathlib.Nat.{not-suc-le-zero, div-one, zero-div, min-eq-left}
 use native.Mathlib.Numerals.{one-add}
 use native.Mathlib.Omega.{arith}
 use lib.Dec.{ltb, eqb, leb·suc-suc, eqb·suc-suc, eqb·zero-suc, eqb·suc-zero}
 use lib.Arith.{bin-ind, digits-div, digits-mod, lt-of-le-ne}
-use lib.Pow.{shr-shr, pow-pos, pow-lt, pow-mono}
+use lib.Pow.{shr-shr, pow-pos, pow-lt}
 use lib.Bits.{bitAnd, bitOr, and-step, or-step, and-le-l, or-lt, and-self, and-zero-r}
 use lib.Count.{trailingZeros, under}
 use borrow.Author.Tests.{ltb-true, lt-ltb, le-ltb, eqb-true, eqb-false, eq-eqb, ne-eqb, not-true}
 use Rattle.quorum.specs.Sets.{member, used, holds, shares, within, join, unite, minus, remove, lowest, full}
-use Rattle.basics.proofs.Tests.{same-test, and-left, and-right, and-both, or-left, or-right, or-cases, by-cases, clash}
+use Rattle.basics.proofs.Tests.{same-test, and-left, and-right, and-both, or-left, or-right, or-cases, by-cases, clash, either}
 
 -- ---- station 0, and the stations above it
 pub member-zero : (a : ℕ) → member a 0 ≡ eqb (a % 2) 1
@@ -178,14 +178,14 @@ has-member = bin-ind (λ (a : ℕ). (a ≡ 0 → ⊥) → (i : ℕ) × (member a
   where
     step : (a : ℕ) → ((a / 2 ≡ 0 → ⊥) → (i : ℕ) × (member (a / 2) i ≡ true)) → (a ≡ 0 → ⊥) → (i : ℕ) × (member a i ≡ true)
     step a ih h =
-        by-cases (λ (b : Bool). eqb (a % 2) 1 ≡ b → (i : ℕ) × (member a i ≡ true)) (eqb (a % 2) 1)
-        (λ _ e. (0, member-zero a ∙ e))
-        (λ _ e. let q : a % 2 ≡ 1 → ⊥ = eqb-false _ _ e in let r = ih (λ z. h (omega arith)) in (suc (r .0), member-suc a (r .0) ∙ r .1)) refl
+        either (eqb (a % 2) 1)
+        (λ e. (0, member-zero a ∙ e))
+        (λ e. let q : a % 2 ≡ 1 → ⊥ = eqb-false _ _ e in let r = ih (λ z. h (omega arith)) in (suc (r .0), member-suc a (r .0) ∙ r .1))
 
 same-digit : (x y : ℕ) → x < 2 → y < 2 → eqb x 1 ≡ eqb y 1 → x ≡ y
 same-digit x y p q e =
-    by-cases (λ (b : Bool). eqb y 1 ≡ b → x ≡ y) (eqb y 1) (λ _ h. eqb-true x 1 (e ∙ h) ∙ sym (eqb-true y 1 h))
-    (λ _ h. let f : x ≡ 1 → ⊥ = eqb-false x 1 (e ∙ h) in let g : y ≡ 1 → ⊥ = eqb-false y 1 h in omega arith) refl
+    either (eqb y 1) (λ h. eqb-true x 1 (e ∙ h) ∙ sym (eqb-true y 1 h))
+    (λ h. let f : x ≡ 1 → ⊥ = eqb-false x 1 (e ∙ h) in let g : y ≡ 1 → ⊥ = eqb-false y 1 h in omega arith)
 
 -- sets with the same members are equal
 pub same-members : (a b : ℕ) → ((i : ℕ) → member a i ≡ member b i) → a ≡ b
@@ -193,8 +193,8 @@ same-members = bin-ind (λ (a : ℕ). (b : ℕ) → ((i : ℕ) → member a i �
   where
     none : (b : ℕ) → ((i : ℕ) → member 0 i ≡ member b i) → 0 ≡ b
     none b h =
-        by-cases (λ (t : Bool). eqb b 0 ≡ t → 0 ≡ b) (eqb b 0) (λ _ e. sym (eqb-true _ _ e))
-        (λ _ e. let r = has-member b (eqb-false _ _ e) in clash (r .1) (sym (h (r .0)) ∙ member-empty (r .0))) refl
+        either (eqb b 0) (λ e. sym (eqb-true _ _ e))
+        (λ e. let r = has-member b (eqb-false _ _ e) in clash (r .1) (sym (h (r .0)) ∙ member-empty (r .0)))
 
     step : (a : ℕ) → ((b : ℕ) → ((i : ℕ) → member (a / 2) i ≡ member b i) → a / 2 ≡ b) → (b : ℕ) → ((i : ℕ) → member a i ≡ member b i) → a ≡ b
     step a ih b h =
@@ -214,8 +214,8 @@ within-member (suc i) (suc n) a l e =
 -- and one that has no others is below 2 ^ n
 pub member-within : (n a : ℕ) → ((i : ℕ) → member a i ≡ true → i < n) → a < 2 ^ n
 member-within zero a h =
-    by-cases (λ (b : Bool). eqb a 0 ≡ b → a < 1) (eqb a 0) (λ _ e. let z = eqb-true a 0 e in omega arith)
-    (λ _ e. let m = has-member a (eqb-false a 0 e) in absurd (not-suc-le-zero (h (m .0) (m .1)))) refl
+    either (eqb a 0) (λ e. let z = eqb-true a 0 e in omega arith)
+    (λ e. let m = has-member a (eqb-false a 0 e) in absurd (not-suc-le-zero (h (m .0) (m .1))))
 member-within (suc n) a h =
     let r = member-within n (a / 2) (λ i e. let l = h (suc i) (member-suc a i ∙ e) in omega arith) in omega arith
 

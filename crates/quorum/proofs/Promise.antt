@@ -17,7 +17,8 @@ use Rattle.basics.proofs.Tests.{clash, fails, same-test, any-below, below-any}
 use Rattle.quorum.proofs.Members.{member-empty, member-join, member-or, member-minus, member-remove, member-full, same-members}
 use Rattle.quorum.proofs.Members.{holds-member, member-holds, shares-members, used-member, within-members, within-join, within-unite, within-minus}
 use Rattle.quorum.proofs.Members.{lowest-member, below-lowest, remove-less, without-lowest}
-use Rattle.quorum.proofs.Validity.{valid-facts, facts-valid, first-used, place-lies, lies-place, first-start, first-on, first-hit, first-found, first-nowhere}
+use Rattle.quorum.proofs.Validity.{valid-facts, facts-valid, first-used, place-lies, lies-place}
+use Rattle.quorum.proofs.Validity.{first-start, first-on, first-hit, first-found, first-nowhere}
 
 -- ---- a side of a configuration
 module _ (side : ℕ → ℕ) (set : ℕ) where

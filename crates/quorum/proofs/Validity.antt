@@ -1,9 +1,9 @@
 -- A valid configuration, as facts about its places, and the places of a side that a set holds.
-use mathlib.Core.Path.{_≡_, refl, sym, ap, _∙_}
+use mathlib.Core.Path.{_≡_, refl}
 use mathlib.Core.Bool.{Bool, true, false, not, cond, _||_}
 use mathlib.Core.List.{List}
 use mathlib.Core.Logic.{_↔_, _⊎_, inl, inr, ⊎-elim}
-use Prim.Native.Nat.{ℕ, zero, suc, _+_, _≤_, _<_}
+use Prim.Native.Nat.{ℕ, zero, suc, _+_, _<_}
 use native.Mathlib.Nat.{not-suc-le-zero}
 use native.Mathlib.Numerals.{add-one}
 use native.Mathlib.Omega.{arith}
@@ -16,7 +16,7 @@ use Rattle.quorum.specs.Configurations.{readSet, writeSet, usedFirst, so
 use Rattle.quorum.specs.Configurations.{holdsPlace, firstPlace, orElse}
 use Rattle.quorum.specs.Promise.{LiesIn, Side, Valid}
 use Rattle.quorum.specs.declared.Place.the-variants.{At, Nowhere}
-use Rattle.basics.proofs.Tests.{clash, by-cases, and-left, and-right, and-both, implies, implied, or-cases}
+use Rattle.basics.proofs.Tests.{clash, by-cases, and-left, and-right, and-both, implies, implied, or-cases, either}
 use Rattle.basics.proofs.Tests.{all-true, true-all, all-below, below-all, any-below, below-any, below-suc}
 use Rattle.quorum.proofs.Members.{holds-member, member-holds, shares-members, within-members}
 
@@ -135,9 +135,9 @@ pub first-hit : (p : ℕ → Bool) (n k : ℕ) → k < n → firstPlace p k ≡ 
 unfolding orElse
 first-hit p zero k l e f = absurd (not-suc-le-zero l)
 first-hit p (suc n) k l e f =
-    by-cases (λ (b : Bool). eqb k n ≡ b → firstPlace p (suc n) ≡ At k) (eqb k n)
-    (λ _ q. let h = eqb-true k n q in rw (first-step, ← h, e, f))
-    (λ _ q. let h : k ≡ n → ⊥ = eqb-false k n q in rw (first-step, first-hit p n k (omega arith) e f)) refl
+    either (eqb k n)
+    (λ q. let h = eqb-true k n q in rw (first-step, ← h, e, f))
+    (λ q. let h : k ≡ n → ⊥ = eqb-false k n q in rw (first-step, first-hit p n k (omega arith) e f))
 
 -- the search over the numbers below n: of none does p hold, or i is the first
 abbrev None : (ℕ → Bool) → ℕ → Type 0
@@ -156,9 +156,9 @@ scan p (suc n) = ⊎-elim stop on (scan p n)
   where
     stop : (firstPlace p n ≡ Nowhere) × None p n → Scanned p (suc n)
     stop h =
-        by-cases (λ (b : Bool). p n ≡ b → Scanned p (suc n)) (p n)
-        (λ _ e. inr (n, first-hit p (suc n) n (omega arith) (h .0) e, (omega arith, e, h .1)))
-        (λ _ e. inl (rw add-one at (first-on p n (h .0) e), below-suc (λ (j : ℕ). p j ≡ false) n (h .1) e)) refl
+        either (p n)
+        (λ e. inr (n, first-hit p (suc n) n (omega arith) (h .0) e, (omega arith, e, h .1)))
+        (λ e. inl (rw add-one at (first-on p n (h .0) e), below-suc (λ (j : ℕ). p j ≡ false) n (h .1) e))
 
     on : (i : ℕ) × (firstPlace p n ≡ At i) × First p n i → Scanned p (suc n)
     on r = let l = r .2 .0 in inr (r .0, rw (first-step, r .1), (omega arith, r .2 .1, r .2 .2))

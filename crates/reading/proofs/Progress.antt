@@ -9,8 +9,8 @@ use lib.Dec.{ltb}
 use lib.ListN.{length, take, drop}
 use lib.Seq.{take-add, take-all, take-at}
 use borrow.Author.Tests.{ltb-true, ltb-false}
-use Rattle.basics.proofs.Tests.{by-cases}
-use Rattle.layout.specs.Updates.{over}
+use Rattle.basics.specs.Bytes.{over}
+use Rattle.basics.proofs.Tests.{either}
 use Rattle.replies.specs.ReplyLine.{replyLineSize}
 use Rattle.runs.specs.Pieces.{InHand, start, afterPiece, printedBy}
 use Rattle.runs.proofs.Pieces.{after-append}
@@ -35,7 +35,7 @@ module _ (piece table line out : List ℕ) (s : Fed) (table' line' out' : List �
         → (length piece ≤ r .at) ⊎ (length out < r .out + replyLineSize) → s .at < r .at
     forward z room more (inl e) = omega arith
     forward z room more (inr e) =
-        by-cases (λ _. s .at < r .at) (ltb (s .at) (r .at)) (λ q. ltb-true _ _ q)
+        either (ltb (s .at) (r .at)) (λ q. ltb-true _ _ q)
         (λ q. let x : r .at ≤ s .at = ltb-false _ _ q in let y = nothing (omega arith) in absurd (omega arith))
 
     pub up-to-more : (h : InHand) → UpTo h piece table line s → UpTo h piece table' line' r

@@ -3,12 +3,11 @@ use mathlib.Core.Path.{_≡_, refl}
 use mathlib.Core.List.{List, [], _∷_, _++_}
 use Prim.Native.Nat.{ℕ, _%_, _<_}
 use lib.ListN.{length, replicate, length-append}
-use Rattle.layout.specs.Updates.{over}
-use Rattle.layout.proofs.Numbers.{number-one}
-use Rattle.layout.proofs.Parts.{length-bytes, read-bytes, bytes-of, bytes-append}
+use Rattle.basics.proofs.Bytes.{number-one}
+use Rattle.basics.proofs.Parts.{length-bytes, read-bytes, bytes-of, bytes-append}
 use Rattle.rules.specs.declared.Reply.{Reply}
 use Rattle.frames.specs.Hex.{bytesIn, hexOf}
-use Rattle.basics.specs.Bytes.{AreBytes, number, bytesOf}
+use Rattle.basics.specs.Bytes.{AreBytes, number, bytesOf, over}
 use Rattle.frames.proofs.Digits.{byte-halves, hex-length}
 use Rattle.replies.specs.ReplyLine.{replySize, lineEnd, replyBytes, replyLineSize, replyLine, Showable, Shows}
 

@@ -6,8 +6,8 @@ use native.Mathlib.Omega.{arith}
 use native.Mathlib.Numerals.{add-one}
 use lib.ListN.{length, getD, take, set, length-set, length-append}
 use lib.Seq.{take-suc, take-all, length-take-le}
-use Rattle.layout.specs.Updates.{over}
-use Rattle.layout.proofs.Parts.{over-cons, over-nil, over-append}
+use Rattle.basics.specs.Bytes.{over}
+use Rattle.basics.proofs.Parts.{over-cons, over-nil, over-append}
 use Rattle.frames.specs.Hex.{digitOf, hexOf}
 use Rattle.frames.proofs.Digits.{hex-length}
 

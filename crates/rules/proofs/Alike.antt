@@ -6,32 +6,29 @@ use mathlib.Core.Logic.{_⊎_, inl, inr}
 use Prim.Native.Nat.{ℕ, zero, suc, _<_}
 use native.Mathlib.Omega.{arith}
 use lib.Dec.{ltb, eqb}
-use lib.ListN.{length}
-use borrow.Author.Tests.{eqb-true, ne-eqb}
+use borrow.Author.Tests.{ne-eqb}
 use Rattle.basics.specs.Bytes.{AreBytes}
 use Rattle.basics.proofs.Tests.{clash}
 use Rattle.quorum.specs.Sets.{member, join, remove, full, minus}
 use Rattle.quorum.specs.Configurations.{valid}
-use Rattle.layout.specs.Fields.{Copy, Kind, none, read, write, change}
+use Rattle.layout.specs.Fields.{Kind, none, read, write, change}
 use Rattle.layout.specs.Rounds.{withPoll, withPut, withLink}
-use Rattle.layout.specs.Newest.{byGeneration, hears}
+use Rattle.layout.specs.Newest.{hears}
 use Rattle.layout.specs.View.{Table, State, view, own, foundByVersion, foundByGeneration, heard}
 use Rattle.layout.proofs.Soundness.{is-sound}
 use Rattle.layout.proofs.Newer.{by-version-same, by-generation-same, hears-same}
-use Rattle.layout.proofs.Stored.{stored, committed}
+use Rattle.layout.proofs.Stored.{stored}
 use Rattle.rules.specs.Calls.{Call, lay, openRead, openWrite, openChange, poll, put, commit, abandon, link, reach, isLay, isData, isOff}
 use Rattle.rules.specs.Passed.{Passable}
-use Rattle.rules.specs.Rules.{tests, numberOf, first, idle, noSize, noSort, noLink, wrongPut, spent, spentAtPut, written, commitTests}
+use Rattle.rules.specs.Rules.{tests, numberOf, first, idle, noSize, noSort, noLink, wrongPut, spent, spentAtPut, written}
 use Rattle.rules.specs.Figures.{Figures, figuresOf, closing, reachOf, oneFigure}
-use Rattle.rules.specs.After.{stores, linked}
+use Rattle.rules.specs.After.{stores}
 use Rattle.rules.specs.Reply.{replyOf, reply, after, answer}
 use Rattle.rules.specs.Lists.{replies, afterAll, AllPassable}
 use Rattle.rules.specs.Needs.{needs, Allowed}
-use Rattle.rules.specs.Alike.{Alike, AlikeTables}
-use Rattle.rules.specs.declared.Reply.{Reply}
+use Rattle.rules.specs.Alike.{SameContents, Alike, AlikeTables}
 use Rattle.rules.proofs.Judged.{allowed, lay-number, sound-number, unsound-number}
 use Rattle.rules.proofs.States.{next}
-use Rattle.rules.proofs.Views.{Like}
 use Rattle.rules.proofs.Demand1.{refusal-changes-nothing}
 use Rattle.rules.proofs.Laws.{next-view, length-kept, bytes-kept}
 use Rattle.rules.proofs.Kept.{after-sound}
@@ -41,23 +38,26 @@ no-figures : (k : ℕ) (f g : Figures) → (k ≡ 0 → ⊥) → answer k f ≡ 
 no-figures k f g h = rw (ne-eqb k 0 h)
 
 module _ (v w : State) (a : Alike v w) (listed : v .isSound ≡ true → v .round .item < v .m) where
+  abbrev same : SameContents v w
+  same = a .contents
+
   -- ---- what a round has found
   module _ (s : v .isSound ≡ true) where
     own-same : (u : ℕ) → u < v .n → own v u ≡ own w u
     own-same u l =
-        ap (λ r. v .copies (r .item) u) (a .round) ∙ a .copies (w .round .item) u (rw (a .round, a .m) at (listed s)) (rw (a .n) at l)
+        ap (λ r. v .copies (r .item) u) (same .round) ∙ same .copies (w .round .item) u (rw (same .round, same .m) at (listed s)) (rw (same .n) at l)
 
     version-same : foundByVersion v ≡ foundByVersion w
-    version-same = by-version-same (own v) (own w) (v .round .polled) (v .n) own-same ∙ rw (a .n, a .round)
+    version-same = by-version-same (own v) (own w) (v .round .polled) (v .n) own-same ∙ rw (same .n, same .round)
 
     generation-same : foundByGeneration v ≡ foundByGeneration w
-    generation-same = by-generation-same (own v) (own w) (v .round .polled) (v .n) own-same ∙ rw (a .n, a .round)
+    generation-same = by-generation-same (own v) (own w) (v .round .polled) (v .n) own-same ∙ rw (same .n, same .round)
 
     heard-same : heard v ≡ heard w
-    heard-same = hears-same (own v) (own w) (v .round .polled) (v .n) own-same ∙ rw (a .n, a .round)
+    heard-same = hears-same (own v) (own w) (v .round .polled) (v .n) own-same ∙ rw (same .n, same .round)
 
     polled-same : (u : ℕ) → hears (own v) (withPoll (v .round) u .polled) (v .n) ≡ hears (own w) (withPoll (w .round) u .polled) (w .n)
-    polled-same u = hears-same (own v) (own w) (withPoll (v .round) u .polled) (v .n) own-same ∙ rw (a .n, a .round)
+    polled-same u = hears-same (own v) (own w) (withPoll (v .round) u .polled) (v .n) own-same ∙ rw (same .n, same .round)
 
     spent-same : (k : Kind) → spent v k ≡ spent w k
     spent-same none = refl
@@ -74,24 +74,24 @@ module _ (v w : State) (a : Alike v w) (listed : v .isSound ≡ true → v .roun
     written-same : (k : Kind) → written v k ≡ written w k
     written-same none = refl
     written-same read = refl
-    written-same write = rw (generation-same, a .round)
-    written-same change = rw (generation-same, a .round)
+    written-same write = rw (generation-same, same .round)
+    written-same change = rw (generation-same, same .round)
 
     closing-same : (k : Kind) → closing v k ≡ closing w k
     closing-same none = refl
     closing-same read = rw (version-same, generation-same)
-    closing-same write = rw (version-same, generation-same, a .round)
+    closing-same write = rw (version-same, generation-same, same .round)
     closing-same change = rw (version-same, generation-same)
 
     -- by the kind of the round that is open
     of-kind : {A : Type 0} (f g : Kind → A) → ((k : Kind) → f k ≡ g k) → f (v .round .kind) ≡ g (w .round .kind)
-    of-kind f g e = e (v .round .kind) ∙ ap (λ r. g (r .kind)) (a .round)
+    of-kind f g e = e (v .round .kind) ∙ ap (λ r. g (r .kind)) (same .round)
 
   -- ---- call by call: the same tests; where the call is allowed, the same figures, and states after it that are alike
   pub record AlikeLaw (c : Call) : Type 0 where
     pub tested : (isLay c ≡ true) ⊎ (v .isSound ≡ true) → tests v c ≡ tests w c
     pub figures : Allowed v c → figuresOf v c ≡ figuresOf w c
-    pub states : Allowed v c → Like (next v c) (next w c)
+    pub states : Allowed v c → SameContents (next v c) (next w c)
 
   -- a call that is no lay has been told that the table is sound
   not-lay : {A : Type 0} → (v .isSound ≡ true → A) → (false ≡ true) ⊎ (v .isSound ≡ true) → A
@@ -108,76 +108,76 @@ module _ (v w : State) (a : Alike v w) (listed : v .isSound ≡ true → v .roun
       }
   alike-law (openRead i) =
       record {
-        tested = λ _ j. (not (ltb i (a .m j)), 2) ∷ (not (idle (a .round j .kind)), 4) ∷ [];
+        tested = λ _ j. (not (ltb i (same .m j)), 2) ∷ (not (idle (same .round j .kind)), 4) ∷ [];
         figures = λ _. refl;
-        states = λ _. record { n = a .n; m = a .m; off = a .off; round = refl; copies = a .copies };
+        states = λ _. record { n = same .n; m = same .m; off = same .off; round = refl; copies = same .copies };
       }
   alike-law (openWrite i value) =
       record {
-        tested = λ _ j. (not (ltb i (a .m j)), 2) ∷ (not (idle (a .round j .kind)), 4) ∷ [];
+        tested = λ _ j. (not (ltb i (same .m j)), 2) ∷ (not (idle (same .round j .kind)), 4) ∷ [];
         figures = λ _. refl;
-        states = λ _. record { n = a .n; m = a .m; off = a .off; round = refl; copies = a .copies };
+        states = λ _. record { n = same .n; m = same .m; off = same .off; round = refl; copies = same .copies };
       }
   alike-law (openChange i target) =
       record {
-        tested = λ _ j. (not (ltb i (a .m j)), 2) ∷ (not (valid (a .n j) target), 3) ∷ (not (idle (a .round j .kind)), 4) ∷ [];
+        tested = λ _ j. (not (ltb i (same .m j)), 2) ∷ (not (valid (same .n j) target), 3) ∷ (not (idle (same .round j .kind)), 4) ∷ [];
         figures = λ _. refl;
-        states = λ _. record { n = a .n; m = a .m; off = a .off; round = refl; copies = a .copies };
+        states = λ _. record { n = same .n; m = same .m; off = same .off; round = refl; copies = same .copies };
       }
   alike-law (poll s) =
       record {
-        tested = λ _ j. (not (ltb s (a .n j)), 2) ∷ (idle (a .round j .kind), 5) ∷ (member (a .off j) s, 6)
-            ∷ (not (eqb (a .round j .dataPuts) 0 && eqb (a .round j .configPuts) 0), 7) ∷ [];
+        tested = λ _ j. (not (ltb s (same .n j)), 2) ∷ (idle (same .round j .kind), 5) ∷ (member (same .off j) s, 6)
+            ∷ (not (eqb (same .round j .dataPuts) 0 && eqb (same .round j .configPuts) 0), 7) ∷ [];
         figures = λ h j. oneFigure (cond (polled-same (h .0) s j) 1 0);
-        states = λ _. record { n = a .n; m = a .m; off = a .off; round = ap (λ r. withPoll r s) (a .round); copies = a .copies };
+        states = λ _. record { n = same .n; m = same .m; off = same .off; round = ap (λ r. withPoll r s) (same .round); copies = same .copies };
       }
   alike-law (put s sort) =
       record {
-        tested = not-lay (λ e j. (not (ltb s (a .n j)) || noSort sort, 2) ∷ (idle (a .round j .kind), 5) ∷ (member (a .off j) s, 6) ∷ (not (heard-same e j), 8)
-            ∷ (wrongPut (a .round j .kind) sort, 9) ∷ (of-kind e _ _ (λ k. spent-put-same e k sort) j, 10) ∷ []);
+        tested = not-lay (λ e j. (not (ltb s (same .n j)) || noSort sort, 2) ∷ (idle (same .round j .kind), 5) ∷ (member (same .off j) s, 6)
+            ∷ (not (heard-same e j), 8) ∷ (wrongPut (same .round j .kind) sort, 9) ∷ (of-kind e _ _ (λ k. spent-put-same e k sort) j, 10) ∷ []);
         figures = λ _. refl;
-        states = λ _. record { n = a .n; m = a .m; off = a .off; round = ap (λ r. withPut r s (isData sort)) (a .round); copies = a .copies };
+        states = λ _. record { n = same .n; m = same .m; off = same .off; round = ap (λ r. withPut r s (isData sort)) (same .round); copies = same .copies };
       }
   alike-law commit =
       record {
-        tested = not-lay (λ e j. (idle (a .round j .kind), 5) ∷ (not (heard-same e j), 8) ∷ (of-kind e _ _ (spent-same e) j, 10)
+        tested = not-lay (λ e j. (idle (same .round j .kind), 5) ∷ (not (heard-same e j), 8) ∷ (of-kind e _ _ (spent-same e) j, 10)
             ∷ (not (of-kind e _ _ (written-same e) j), 11) ∷ []);
         figures = λ h. of-kind (h .0) _ _ (closing-same (h .0));
         states = λ h. record {
-          n = a .n;
-          m = a .m;
-          off = a .off;
+          n = same .n;
+          m = same .m;
+          off = same .off;
           round = refl;
-          copies = λ i s p q j. let r = a .round j in
+          copies = λ i s p q j. let r = same .round j in
               stored (eqb i (r .item) && member (r .dataPuts) s) (eqb i (r .item) && member (r .configPuts) s)
-              (stores (of-kind (h .0) _ _ (closing-same (h .0)) j) (r .target)) (a .copies i s p q j);
+              (stores (of-kind (h .0) _ _ (closing-same (h .0)) j) (r .target)) (same .copies i s p q j);
         };
       }
   alike-law abandon =
       record {
-        tested = λ _ j. (idle (a .round j .kind), 5) ∷ [];
+        tested = λ _ j. (idle (same .round j .kind), 5) ∷ [];
         figures = λ _. refl;
-        states = λ _. record { n = a .n; m = a .m; off = a .off; round = refl; copies = a .copies };
+        states = λ _. record { n = same .n; m = same .m; off = same .off; round = refl; copies = same .copies };
       }
   alike-law (link s state) =
       record {
-        tested = λ _ j. (not (ltb s (a .n j)) || noLink state, 2) ∷ [];
+        tested = λ _ j. (not (ltb s (same .n j)) || noLink state, 2) ∷ [];
         figures = λ _. refl;
         states = λ _. record {
-          n = a .n;
-          m = a .m;
-          off = λ j. cond (isOff state) (join (a .off j) s) (remove (a .off j) s);
-          round = ap (λ r. withLink r s (isOff state)) (a .round);
-          copies = a .copies;
+          n = same .n;
+          m = same .m;
+          off = λ j. cond (isOff state) (join (same .off j) s) (remove (same .off j) s);
+          round = ap (λ r. withLink r s (isOff state)) (same .round);
+          copies = same .copies;
         };
       }
   alike-law (reach i) =
       record {
-        tested = λ _ j. (not (ltb i (a .m j)), 2) ∷ [];
+        tested = λ _ j. (not (ltb i (same .m j)), 2) ∷ [];
         figures = λ h. ap (λ x. oneFigure (reachOf (x .config) (minus (full (v .n)) (v .off))))
-            (by-generation-same (v .copies i) (w .copies i) (full (v .n)) (v .n) (λ s l. a .copies i s (rw (a .m) at (h .1 .0)) (rw (a .n) at l)))
-            ∙ rw (a .n, a .off);
-        states = λ _. record { n = a .n; m = a .m; off = a .off; round = a .round; copies = a .copies };
+            (by-generation-same (v .copies i) (w .copies i) (full (v .n)) (v .n) (λ s l. same .copies i s (rw (same .m) at (h .1 .0)) (rw (same .n) at l)))
+            ∙ rw (same .n, same .off);
+        states = λ _. record { n = same .n; m = same .m; off = same .off; round = same .round; copies = same .copies };
       }
 
   -- ---- the reply
@@ -223,12 +223,14 @@ module _ (t u : Table) (c : Call) (bt : AreBytes t) (bu : AreBytes u) (p : Passa
       record {
         isSound = after-sound t c bt p e ∙ sym (after-sound u c bu p d);
         fits = fits-after;
-        n = x .n ∙ z .n ∙ sym (y .n);
-        m = x .m ∙ z .m ∙ sym (y .m);
-        off = x .off ∙ z .off ∙ sym (y .off);
-        round = x .round ∙ z .round ∙ sym (y .round);
-        copies = λ i s p q. let i′ = rw (y .m) at p in let s′ = rw (y .n) at q in
-            x .copies i s (rw (z .m) i′) (rw (z .n) s′) ∙ z .copies i s i′ s′ ∙ sym (y .copies i s i′ s′);
+        contents = record {
+          n = x .n ∙ z .n ∙ sym (y .n);
+          m = x .m ∙ z .m ∙ sym (y .m);
+          off = x .off ∙ z .off ∙ sym (y .off);
+          round = x .round ∙ z .round ∙ sym (y .round);
+          copies = λ i s p q. let i′ = rw (y .m) at p in let s′ = rw (y .n) at q in
+              x .copies i s (rw (z .m) i′) (rw (z .n) s′) ∙ z .copies i s i′ s′ ∙ sym (y .copies i s i′ s′);
+        };
       }
 
   alike-after : Alike (view (after t c)) (view (after u c))

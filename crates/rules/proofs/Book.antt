@@ -21,11 +21,11 @@ use Rattle.rules.specs.Rules.{idle, written}
 use Rattle.rules.specs.Figures.{Figures, closing}
 use Rattle.rules.specs.After.{stores}
 use Rattle.rules.specs.Book.{Entry, Noted, none, read, write, change, Book, started, entry, finish, step}
+use Rattle.rules.specs.Alike.{SameContents}
 use Rattle.rules.proofs.Judged.{a-round}
 use Rattle.rules.proofs.Copies.{Kept, Current, heard-current, kept-same, kept-laid, bothPut}
 use Rattle.rules.proofs.Copies.{kept-read-commit, kept-write-commit, kept-change-commit}
 use Rattle.rules.proofs.States.{next}
-use Rattle.rules.proofs.Views.{Like}
 
 -- the round of a table as the book notes it
 abbrev pub notedOf : Kind → ℕ → ℕ → Noted
@@ -44,7 +44,7 @@ pub record Follows (v : State) (b : Book) : Type 0 where
   pub entries : length (b .items) ≡ 32
 
 -- it speaks of the items and stations of the table only
-pub follows-like : (v w : State) (b : Book) → Like v w → Follows w b → Follows v b
+pub follows-like : (v w : State) (b : Book) → SameContents v w → Follows w b → Follows v b
 follows-like v w b l inv =
     record {
       kept = rw (l .n, l .m) (λ j h. kept-same (w .n) (w .copies j) (v .copies j) _ _ _ (λ s q. l .copies j s h q) (inv .kept j h));

@@ -9,7 +9,7 @@ use lib.Dec.{ltb}
 use borrow.Author.Tests.{ltb-true, ltb-false}
 use Rattle.quorum.specs.Sets.{member, full}
 use Rattle.quorum.specs.Configurations.{valid, holdsRead, holdsWrite}
-use Rattle.basics.proofs.Tests.{by-cases}
+use Rattle.basics.proofs.Tests.{by-cases, either}
 use Rattle.quorum.proofs.Promise.{promise}
 use Rattle.layout.specs.Fields.{Copy}
 use Rattle.layout.specs.Newest.{byVersion, byGeneration, hears}
@@ -79,13 +79,13 @@ module _ (n : ℕ) (cs : ℕ → Copy) (v w g polled : ℕ) (k : Kept n cs v w g
   -- polled copy of 5.5.1 (1)(a)'s write quorum would be newer
   current-generation : (b : ℕ) → IsNewest (λ s. cs s .generation) polled n b → holdsRead (cs b .config) polled ≡ true → cs b .generation ≡ g
   current-generation b t r =
-      by-cases (λ (x : Bool). ltb (cs b .generation) g ≡ x → cs b .generation ≡ g) (ltb (cs b .generation) g)
-      (λ _ e. let q = k .superseded b (t .station) (ltb-true _ _ e) in
+      either (ltb (cs b .generation) g)
+      (λ e. let q = k .superseded b (t .station) (ltb-true _ _ e) in
       let m = promise .quorums-meet n (cs b .config) polled (q .set) (ok b (t .station)) r (q .writable) in
       let h₁ = q .every (m .0) (m .1) (m .2 .1) in
       let h₂ = t .greatest (m .0) (m .1) (m .2 .0) in
       absurd (omega arith))
-      (λ _ e. let h = k .generations b (t .station) in omega (arith, ltb-false)) refl
+      (λ e. let h = k .generations b (t .station) in omega (arith, ltb-false))
 
   pub heard-current : hears cs polled n ≡ true → Current (byVersion cs polled n) (byGeneration cs polled n) v w g (k .config)
   unfolding hears
@@ -181,18 +181,16 @@ module _ (n : ℕ) (cs : ℕ → Copy) (v w g : ℕ) (k : Kept n cs v w g) where
       -- a station that kept its generation: it was superseded already, or the configuration puts supersede it now
       older : (s : ℕ) → s < n → Quorum n (cs s .config) (λ u. cs s .generation < cond (member c u) (g + 1) (cs u .generation))
       older s b =
-          by-cases (λ (t : Bool). ltb (cs s .generation) g ≡ t → Quorum n (cs s .config) (λ u. cs s .generation < cond (member c u) (g + 1) (cs u .generation)))
-          (ltb (cs s .generation) g)
-          (λ _ e. let o = k .superseded s b (ltb-true _ _ e) in
+          either (ltb (cs s .generation) g)
+          (λ e. let o = k .superseded s b (ltb-true _ _ e) in
           record {
             set = o .set;
             writable = o .writable;
             every = λ u h m. by-cases (λ (t : Bool). cs s .generation < cond t (g + 1) (cs u .generation)) (member c u)
                 (λ _. omega (arith, k .generations s b)) (λ _. o .every u h m);
           })
-          (λ _ e. let h : cs s .generation ≡ g = omega (arith, ltb-false, k .generations s b) in
+          (λ e. let h : cs s .generation ≡ g = omega (arith, ltb-false, k .generations s b) in
           record { set = c; writable = rw (k .current s b h) q; every = λ u l m. rw m (omega (arith, k .generations s b)) })
-          refl
 
 -- ---- what each kind of commit leaves, from what its round found
 -- with no configuration puts only the data is stored

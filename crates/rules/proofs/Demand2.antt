@@ -1,17 +1,17 @@
 -- Demand 2 holds: what commit needs (Needs.antt), told number by number.
 use mathlib.Core.Path.{_≡_, refl}
-use mathlib.Core.Bool.{Bool, true, false}
+use mathlib.Core.Bool.{true}
 use mathlib.Core.List.{[], _∷_}
 use mathlib.Core.Logic.{_↔_, _⊎_, inl, inr}
 use Prim.Native.Nat.{ℕ}
 use native.Mathlib.Omega.{arith}
-use Rattle.basics.proofs.Tests.{clash, by-cases}
+use Rattle.basics.proofs.Tests.{clash, either}
 use Rattle.layout.specs.Fields.{Kind, none}
 use Rattle.layout.specs.View.{State, view}
 use Rattle.rules.specs.Calls.{commit}
 use Rattle.rules.specs.Rules.{numberOf, spent}
-use Rattle.rules.specs.Reply.{replyOf, reply}
-use Rattle.rules.specs.Demand2.{Found, Heard, Spent, Written, Commits, Demand2}
+use Rattle.rules.specs.Reply.{replyOf}
+use Rattle.rules.specs.Demand2.{Found, Heard, Spent, Written, Demand2}
 use Rattle.rules.specs.Needs.{Gets, HeardRound, needs}
 use Rattle.rules.proofs.Quorums.{is-spent, is-written}
 use Rattle.rules.proofs.Judged.{number-gets, allowed, is-done}
@@ -50,8 +50,8 @@ module _ (v : State) (isSound : v .isSound ≡ true) (isOpen : v .round .kind �
   -- some found round is spent, where not none is
   some-spent : (f : Found v) → (((g : Found v) → Spent v g k → ⊥) → ⊥) → Spent v f k
   some-spent f h =
-      by-cases (λ (b : Bool). spent v k ≡ b → Spent v f k) (spent v k) (λ _ e. is-spent v f k .0 e)
-      (λ _ e. absurd (h (λ g s. clash (is-spent v g k .1 s) e))) refl
+      either (spent v k) (λ e. is-spent v f k .0 e)
+      (λ e. absurd (h (λ g s. clash (is-spent v g k .1 s) e)))
 
   finished : (number ≡ 0) ↔ ((f : Found v) × Heard v f × (Spent v f k → ⊥) × Written v f k)
   unfolding needs

@@ -6,7 +6,6 @@ use Prim.Native.Nat.{ℕ}
 use lib.Dec.{eqb}
 use Rattle.basics.proofs.Tests.{by-cases}
 use Rattle.layout.specs.View.{Table, view}
-use Rattle.layout.proofs.Soundness.{is-sound}
 use Rattle.rules.specs.Calls.{reach}
 use Rattle.rules.specs.Rules.{numberOf}
 use Rattle.rules.specs.After.{done}

@@ -1,26 +1,26 @@
 -- Each call's tests decide its needs, in their order; its numbers are listed and rise; it has figures or none, and is a lay or another.
 use mathlib.Core.Path.{_≡_, refl, sym, ap, _∙_}
-use mathlib.Core.Bool.{Bool, true, false, not, _&&_, _||_}
-use mathlib.Core.List.{List, [], _∷_}
+use mathlib.Core.Bool.{true, false, not, _&&_, _||_}
+use mathlib.Core.List.{List, _∷_}
 use mathlib.Core.Logic.{_↔_, _⊎_, inl, inr, ⊎-elim}
-use Prim.Native.Nat.{ℕ, _≤_, _<_}
+use Prim.Native.Nat.{ℕ, _<_}
 use native.Mathlib.Omega.{arith}
-use lib.Dec.{ltb, leb, eqb}
-use borrow.Author.Tests.{ltb-true, lt-ltb, leb-true, le-leb, eqb-true, eqb-false, eq-eqb, ne-eqb, not-true, not-false}
+use lib.Dec.{ltb, eqb}
+use borrow.Author.Tests.{ltb-true, lt-ltb, eqb-true, eq-eqb, ne-eqb, not-false}
 use Rattle.basics.proofs.Tests.{clash, and-left, and-right, and-both, or-left, or-right, or-cases, or-false-left, or-false-right}
 use Rattle.quorum.proofs.Promise.{promise}
 use Rattle.layout.specs.Layout.{listed}
 use Rattle.layout.proofs.Sizes.{sized}
 use Rattle.layout.specs.Fields.{Kind, none, read, write, change}
-use Rattle.layout.specs.View.{State, view, heard}
+use Rattle.layout.specs.View.{State, view}
 use Rattle.rules.specs.Calls.{Call, lay, openRead, openWrite, openChange, poll, put, commit, abandon, link, reach, isLay, isConfigSort}
-use Rattle.rules.specs.Rules.{first, tests, refusals, numberOf, idle, wrongPut, spent, spentAtPut, written}
+use Rattle.rules.specs.Rules.{first, tests, refusals, numberOf, idle, wrongPut, spentAtPut}
 use Rattle.rules.specs.Figures.{figuresOf, noFigures}
 use Rattle.rules.specs.Reply.{replyOf}
 use Rattle.rules.specs.Demand1.{HasFigures, of-poll, of-commit, of-reach}
-use Rattle.rules.specs.Demand2.{Found, Spent, Written}
-use Rattle.rules.specs.Needs.{Gets, Fails, numbers, Rise, RightPut, SpentAtPut, HeardRound, needs, Allowed, Numbers}
-use Rattle.rules.proofs.Chains.{Decides, Listed, first-fails, first-applies, gets, exactly, gets-zero, gets-listed, gets-fails, gets-lowest}
+use Rattle.rules.specs.Demand2.{Found}
+use Rattle.rules.specs.Needs.{Gets, numbers, Rise, RightPut, SpentAtPut, needs, Allowed, Numbers}
+use Rattle.rules.proofs.Chains.{Decides, Listed, first-fails, first-applies, exactly, gets-zero, gets-fails, gets-lowest}
 use Rattle.rules.proofs.Quorums.{passes, negated, is-spent, is-written, heard-exactly, of-every, of-none, version-found, generation-found}
 
 -- a lay

@@ -18,15 +18,15 @@ use Rattle.rules.specs.Reply.{replyOf, reply, after}
 use Rattle.rules.specs.Lists.{replies, AllPassable}
 use Rattle.rules.specs.Needs.{needs}
 use Rattle.rules.specs.SoundKept.{NoneUnsound, SoundKept}
+use Rattle.rules.specs.Alike.{SameContents}
 use Rattle.rules.proofs.Chains.{Decides, first-tells}
 use Rattle.rules.proofs.Judged.{judged, asked-first, unsound-number}
 use Rattle.rules.proofs.Demand1.{refusal-changes-nothing}
 use Rattle.rules.proofs.States.{next}
-use Rattle.rules.proofs.Views.{Like}
 use Rattle.rules.proofs.Laws.{done-law, holds-next, next-view, bytes-kept}
 
 -- a state like a sound one is sound
-like-sound : (v w : State) → Like v w → StateSound w → StateSound v
+like-sound : (v w : State) → SameContents v w → StateSound w → StateSound v
 like-sound v w l f =
     record {
       positive = rw (l .n) (f .positive);

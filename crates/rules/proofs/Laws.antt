@@ -2,7 +2,6 @@
 -- for every call at once.
 use mathlib.Core.Path.{_≡_, refl, sym, _∙_}
 use mathlib.Core.Bool.{Bool, true, false, cond}
-use mathlib.Core.List.{List}
 use Prim.Native.Nat.{ℕ}
 use native.Mathlib.Nat.{le-refl}
 use native.Mathlib.Omega.{arith}
@@ -13,13 +12,13 @@ use Rattle.basics.specs.Bytes.{AreBytes}
 use Rattle.basics.proofs.Tests.{by-cases}
 use Rattle.quorum.proofs.Promise.{promise}
 use Rattle.quorum.specs.Configurations.{configSize}
-use Rattle.layout.specs.Layout.{targetAt, tableLength}
+use Rattle.layout.specs.Layout.{tableLength}
 use Rattle.layout.specs.Fields.{Copy, Kind, none, read, write, change}
 use Rattle.layout.specs.Soundness.{sound}
 use Rattle.layout.specs.View.{Table, State, view, heard}
 use Rattle.layout.specs.Updates.{setOff, noTarget, putCopies}
-use Rattle.layout.proofs.Parts.{part-length, read-zeros}
-use Rattle.layout.proofs.Fields.{off-only, polled-only, puts-only, round-only}
+use Rattle.basics.proofs.Parts.{read-zeros}
+use Rattle.layout.proofs.Fields.{off-only, polled-only, puts-only, round-only, target-length}
 use Rattle.layout.proofs.Soundness.{StateSound, sound-facts, is-sound, sound-head}
 use Rattle.layout.proofs.Held.{withOff, withCopies, Holds, holds-own, holds-off, holds-polled, holds-puts}
 use Rattle.layout.proofs.Stored.{Small, put-length, laid-length, committed, holds-copies, holds-laid}
@@ -33,11 +32,12 @@ use Rattle.rules.specs.Book.{Book, step}
 use Rattle.rules.specs.Demand2.{Spent, Written}
 use Rattle.rules.specs.Needs.{needs, Allowed}
 use Rattle.rules.specs.Steps.{Step}
+use Rattle.rules.specs.Alike.{SameContents}
 use Rattle.rules.specs.declared.Reply.{Reply}
 use Rattle.rules.proofs.Quorums.{is-spent, is-written, heard-exactly, of-every, of-none}
 use Rattle.rules.proofs.Judged.{allowed}
 use Rattle.rules.proofs.States.{next, renewed, polled-sound, put-sound, closed-sound, committed-sound, link-sound, laid-sound}
-use Rattle.rules.proofs.Views.{Like, closing-fits, opens, opens-plain, two-bytes}
+use Rattle.rules.proofs.Views.{closing-fits, opens, opens-plain, two-bytes}
 use Rattle.rules.proofs.Book.{Follows, keep-laid, keep-commit}
 use Rattle.rules.proofs.Demand1.{Shows}
 use Rattle.rules.proofs.Steps.{opened-step, polled-step, put-step, link-step, commit-step, reach-step, laid-step}
@@ -48,7 +48,7 @@ pub record Law (t : Table) (c : Call) : Type 0 where
   -- the bytes after it hold that state
   pub held : AreBytes t → Passable c → Holds (done t (view t) c) (next (view t) c)
   -- it does what Steps.antt says
-  pub does : (w : State) (r : Reply) → Like w (next (view t) c) → Shows r (figuresOf (view t) c) → Step c (view t) w r
+  pub does : (w : State) (r : Reply) → SameContents w (next (view t) c) → Shows r (figuresOf (view t) c) → Step c (view t) w r
   -- a table that followed the book follows it after both
   pub follows : (b : Book) → Follows (view t) b → Follows (next (view t) c) (step b c)
   -- the table keeps its length
@@ -91,7 +91,7 @@ module _ (t : Table) where
   commit-size s =
       let f = sound-facts t s in
       let h = sound-head t s in
-      let e = put-length t (v .n) (v .round) new (v .m) (f .size) (f .state .item) (part-length t targetAt configSize h) (v .n) (le-refl (v .n)) in
+      let e = put-length t (v .n) (v .round) new (v .m) (f .size) (f .state .item) (target-length t h) (v .n) (le-refl (v .n)) in
       round-only (putCopies t (v .n) (v .round) new (v .n)) (rw e h) 0 0 0 noTarget refl .size ∙ e
 
   link-held : (s state : ℕ) → AreBytes t → v .isSound ≡ true → StateSound (next v (link s state)) → Holds (done t v (link s state)) (next v (link s state))
@@ -225,7 +225,7 @@ module _ (t : Table) (c : Call) (e : reply t c .number ≡ 0) where
   holds-next b p = rw done-after (done-law .held b p)
 
   -- what the rules see after it
-  pub next-view : AreBytes t → Passable c → Like (view (after t c)) (next (view t) c)
+  pub next-view : AreBytes t → Passable c → SameContents (view (after t c)) (next (view t) c)
   unfolding view
   next-view b p = let h = holds-next b p in record { n = h .n; m = h .m; off = h .off; round = h .round; copies = h .copies }
 

@@ -2,7 +2,7 @@
 use mathlib.Core.Path.{_≡_, refl, ap}
 use mathlib.Core.Bool.{Bool, true, false, not, _&&_}
 use mathlib.Core.Logic.{_↔_}
-use Prim.Native.Nat.{ℕ, _-_, _^_}
+use Prim.Native.Nat.{_-_, _^_}
 use borrow.Author.Tests.{eqb-true, eq-eqb, not-false}
 use Rattle.basics.proofs.Tests.{clash, fails, and-left, and-right, and-both}
 use Rattle.quorum.proofs.Promise.{promise}

@@ -5,15 +5,15 @@ use mathlib.Core.List.{List}
 use Prim.Native.Nat.{ℕ, _≤_, _<_}
 use native.Mathlib.Omega.{arith}
 use lib.Dec.{eqb}
-use borrow.Author.Tests.{eqb-true, eqb-false, eq-eqb, not-true}
+use borrow.Author.Tests.{eqb-true, eqb-false, not-true}
 use Rattle.quorum.specs.Sets.{member, shares, within, join, remove}
 use Rattle.quorum.specs.Configurations.{valid, configSize}
-use Rattle.basics.proofs.Tests.{clash, by-cases, and-left, and-right, or-cases}
+use Rattle.basics.proofs.Tests.{clash, by-cases, and-left, and-right, or-cases, fails}
 use Rattle.quorum.proofs.Promise.{promise}
 use Rattle.layout.specs.Fields.{Copy, Kind, none, read, write, change, Round}
 use Rattle.layout.specs.View.{State}
 use Rattle.layout.specs.Updates.{noTarget}
-use Rattle.layout.proofs.Parts.{read-zeros}
+use Rattle.basics.proofs.Parts.{read-zeros}
 use Rattle.layout.specs.Rounds.{withPolled, withPuts, opened, withPoll, withPut, withLink}
 use Rattle.layout.proofs.Soundness.{RoundFacts, StateSound}
 use Rattle.layout.proofs.Held.{withOff, withRound, withCopies}
@@ -39,7 +39,7 @@ next v (reach i) = v
 -- ---- sets that share no station
 apart : (a b : ℕ) → ((i : ℕ) → member a i ≡ true → member b i ≡ true → ⊥) → shares a b ≡ false
 apart a b h =
-    by-cases (λ (x : Bool). x ≡ false) (shares a b) (λ e. let m = promise .shares-member a b .0 e in absurd (h (m .0) (m .1) (m .2))) (λ _. refl)
+    fails (shares a b) (λ e. let m = promise .shares-member a b .0 e in h (m .0) (m .1) (m .2))
 
 no-member : (a b : ℕ) → shares a b ≡ false → (i : ℕ) → member a i ≡ true → member b i ≡ true → ⊥
 no-member a b e i p q = clash (promise .shares-member a b .1 (i, p, q)) e
@@ -85,9 +85,9 @@ module _ (n off set s : ℕ) (small : n ≤ 16) (below : s < n) (f : PutSet n of
       }
 
 -- a set of two that are alike
-either : (P : ℕ → Type 0) (b : Bool) (x y : ℕ) → P x → P y → P (cond b x y)
-either P true x y p q = p
-either P false x y p q = q
+chosen : (P : ℕ → Type 0) (b : Bool) (x y : ℕ) → P x → P y → P (cond b x y)
+chosen P true x y p q = p
+chosen P false x y p q = q
 
 -- ---- the facts of a round after each call
 closed : (n : ℕ) → RoundFacts n (opened none 0 0 noTarget) none
@@ -178,7 +178,7 @@ module _ (v : State) (f : StateSound v) where
       let data-joined = joined (v .n) (v .off) d s (f .small) l data-set on in
       let config-joined = joined (v .n) (v .off) c s (f .small) l config-set on in
       changed (v .off) (withPut (v .round) s d?) (v .copies) (f .off) (f .item) (f .polled)
-      (either (PutSet (v .n) (v .off)) d? (join d s) d data-joined data-set) (either (PutSet (v .n) (v .off)) d? c (join c s) config-set config-joined)
+      (chosen (PutSet (v .n) (v .off)) d? (join d s) d data-joined data-set) (chosen (PutSet (v .n) (v .off)) d? c (join c s) config-set config-joined)
       (facts-put (v .n) (v .round) sort (cond d? (join d s) d) (join c s) (v .round .kind) right (f .round)) (f .configs)
 
   -- whatever the counters are that are stored with the target
@@ -195,7 +195,7 @@ module _ (v : State) (f : StateSound v) where
   link-sound s state l =
       let off? = isOff state in
       changed (linkedOff v s off?) (withLink (v .round) s off?) (v .copies)
-      (either (λ (x : ℕ). within (v .n) x ≡ true) off? (join (v .off) s) (remove (v .off) s)
+      (chosen (λ (x : ℕ). within (v .n) x ≡ true) off? (join (v .off) s) (remove (v .off) s)
       (promise .within-join (v .n) (v .off) s (f .small) (f .off) l) (promise .within-remove (v .n) (v .off) s (f .off))) (f .item) (f .polled)
       (linked (v .n) (v .off) d s (f .small) l data-set off?) (linked (v .n) (v .off) c s (f .small) l config-set off?)
       (facts-link (v .n) (v .round) off? s (v .round .kind) (f .round)) (f .configs)

@@ -24,15 +24,15 @@ use Rattle.rules.specs.Figures.{figuresOf, closing, reachOf, onBus}
 use Rattle.rules.specs.After.{stores}
 use Rattle.rules.specs.Demand2.{Found}
 use Rattle.rules.specs.Steps.{Joined, Removed, SameCopies, SameOrder, Fresh, Laid, Opened, Polled, Put, Linked, Closing, Committed, Reached}
+use Rattle.rules.specs.Alike.{SameContents}
 use Rattle.rules.specs.declared.Reply.{Reply}
 use Rattle.rules.proofs.Demand1.{Shows}
 use Rattle.rules.proofs.Quorums.{version-found, generation-found, heard-exactly}
 use Rattle.rules.proofs.States.{next}
-use Rattle.rules.proofs.Views.{Like}
 
 -- ---- what stays, and what is fresh
 module _ (v w : State) where
-  same-copies : (off : ℕ) (r : Round) → Like w (withRound (withOff v off) r) → SameCopies v w
+  same-copies : (off : ℕ) (r : Round) → SameContents w (withRound (withOff v off) r) → SameCopies v w
   same-copies off r l = record { n = l .n; m = l .m; copies = l .copies }
 
   same-order : (polled d c : ℕ) → w .round ≡ withPuts (withPolled (v .round) polled) d c → SameOrder v w
@@ -95,7 +95,7 @@ module _ {A : Type 0} where
 
 -- ---- poll
 -- the figure is by the state after it
-module _ (v w : State) (s : ℕ) (l : Like w (next v (poll s))) (f : StateSound v) where
+module _ (v w : State) (s : ℕ) (l : SameContents w (next v (poll s))) (f : StateSound v) where
   heard-after : heard w ≡ heard (next v (poll s))
   heard-after =
       rw (l .n, l .round) (hears-same (w .copies (v .round .item)) (own v) (join (v .round .polled) s) (v .n)
@@ -119,12 +119,12 @@ module _ (v w : State) (s : ℕ) (l : Like w (next v (poll s))) (f : StateSound 
       }
 
 -- ---- openings, put and link
-pub opened-step : (v w : State) (k : Kind) (i x : ℕ) (target : List ℕ) → Like w (withRound v (opened k i x target)) → Opened v w k i x target
+pub opened-step : (v w : State) (k : Kind) (i x : ℕ) (target : List ℕ) → SameContents w (withRound v (opened k i x target)) → Opened v w k i x target
 opened-step v w k i x target l =
     record { copies = same-copies v w (v .off) _ l; off = l .off; round = fresh (w .round) k i x target (l .round) }
 
 module _ (v w : State) (s : ℕ) (small : s < 16) where
-  pub put-step : (sort : ℕ) → Like w (next v (put s sort)) → Put v w s sort
+  pub put-step : (sort : ℕ) → SameContents w (next v (put s sort)) → Put v w s sort
   put-step sort l =
       let d = ap (λ r. r .dataPuts) (l .round) in
       let c = ap (λ r. r .configPuts) (l .round) in
@@ -137,7 +137,7 @@ module _ (v w : State) (s : ℕ) (small : s < 16) where
         configPut = λ e. (d ∙ rw e, joined _ s _ small (c ∙ rw e));
       }
 
-  pub link-step : (state : ℕ) → Like w (next v (link s state)) → Linked v w s state
+  pub link-step : (state : ℕ) → SameContents w (next v (link s state)) → Linked v w s state
   link-step state l =
       let d = ap (λ r. r .dataPuts) (l .round) in
       let c = ap (λ r. r .configPuts) (l .round) in
@@ -158,7 +158,7 @@ module _ (v : State) (f : Found v) (r : Reply) where
   closing-step change busy q = rw (version-found v f, generation-found v f) at q
 
 -- what is stored at a station of the round's item, and what stays elsewhere
-module _ (v w : State) (r : Reply) (l : Like w (next v commit)) (item : v .round .item < v .m) (q : Shows r (closing v (v .round .kind))) where
+module _ (v w : State) (r : Reply) (l : SameContents w (next v commit)) (item : v .round .item < v .m) (q : Shows r (closing v (v .round .kind))) where
   abbrev i : ℕ
   i = v .round .item
 
@@ -214,7 +214,7 @@ module _ (v : State) (i : ℕ) (f : StateSound v) where
       }
 
 -- ---- lay
-pub laid-step : (v w : State) (n m value : ℕ) (config : List ℕ) → Like w (next v (lay n m value config)) → Laid w n m value config
+pub laid-step : (v w : State) (n m value : ℕ) (config : List ℕ) → SameContents w (next v (lay n m value config)) → Laid w n m value config
 laid-step v w n m value config l =
     record {
       stations = l .n;

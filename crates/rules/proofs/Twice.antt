@@ -1,21 +1,20 @@
 -- Polling and putting twice, and what a lay looks at.
 use mathlib.Core.Path.{_≡_, refl, sym, ap, _∙_}
 use mathlib.Core.Bool.{Bool, true, false, cond}
-use mathlib.Core.List.{List, _++_}
+use mathlib.Core.List.{List}
 use mathlib.Core.Logic.{_⊎_, inl, inr}
-use Prim.Native.Nat.{ℕ, _+_, _≤_, _<_}
+use Prim.Native.Nat.{ℕ, _<_}
 use native.Mathlib.Omega.{arith}
 use lib.Dec.{eqb}
-use lib.ListN.{length, length-append}
+use lib.ListN.{length}
 use borrow.Author.Tests.{eqb-true}
-use Rattle.basics.specs.Bytes.{part, AreBytes, bytesOf}
+use Rattle.basics.specs.Bytes.{AreBytes}
 use Rattle.quorum.specs.Sets.{member, join}
 use Rattle.basics.proofs.Tests.{or-left, or-right, or-cases}
 use Rattle.quorum.proofs.Promise.{promise}
-use Rattle.layout.specs.Layout.{headSize, polledAt, dataPutsAt, configPutsAt}
 use Rattle.layout.specs.View.{view}
 use Rattle.layout.specs.Updates.{setPolled, setPuts}
-use Rattle.layout.proofs.Parts.{over-again, over-append, over-own, number-bytes, part-length, length-bytes}
+use Rattle.layout.proofs.Again.{polled-again, puts-again, own-polled, own-puts}
 use Rattle.layout.proofs.Fields.{polled-round, puts-round}
 use Rattle.layout.proofs.Soundness.{sound-head}
 use Rattle.rules.specs.Calls.{Call, lay, poll, put, isData, dataSort, configSort}
@@ -45,34 +44,23 @@ module _ (t : List ℕ) (s : ℕ) (e : reply t (poll s) .number ≡ 0) where
   abbrev polled : ℕ
   polled = join (view t .round .polled) s
 
-  poll-head : headSize ≤ length t
-  unfolding needs view
-  poll-head = sound-head t (done-allowed t (poll s) e .0)
-
-  polled-same : setPolled (setPolled t polled) polled ≡ setPolled t polled
-  unfolding setPolled
-  polled-same = over-again t polledAt (bytesOf 2 polled) (let l = poll-head in rw (length-bytes 2 polled) (omega arith))
-
-  polled-again : done (setPolled t polled) (view (setPolled t polled)) (poll s) ≡ setPolled t polled
+  poll-settled : done (setPolled t polled) (view (setPolled t polled)) (poll s) ≡ setPolled t polled
   unfolding done view needs
-  polled-again =
+  poll-settled =
       let a = done-allowed t (poll s) e in
       let f = done-law t (poll s) e .isSound in
+      let head = sound-head t (a .0) in
       let k = f .small in
       let h = a .1 .0 in
-      ap (λ r. setPolled (setPolled t polled) (join (r .polled) s)) (polled-round t poll-head polled (two-bytes _ f polled (f .polled)))
-      ∙ ap (setPolled (setPolled t polled)) (join-again (view t .round .polled) s (omega arith)) ∙ polled-same
+      ap (λ r. setPolled (setPolled t polled) (join (r .polled) s)) (polled-round t head polled (two-bytes _ f polled (f .polled)))
+      ∙ ap (setPolled (setPolled t polled)) (join-again (view t .round .polled) s (omega arith)) ∙ polled-again t head polled
 
   poll-twice : after (after t (poll s)) (poll s) ≡ after t (poll s)
   unfolding done
-  poll-twice = rw (done-after t (poll s) e) (settled (setPolled t polled) (poll s) polled-again)
+  poll-twice = rw (done-after t (poll s) e) (settled (setPolled t polled) (poll s) poll-settled)
 
 -- ---- put
 module _ (t : List ℕ) (s sort : ℕ) (e : reply t (put s sort) .number ≡ 0) where
-  put-head : headSize ≤ length t
-  unfolding needs view
-  put-head = sound-head t (done-allowed t (put s sort) e .0)
-
   -- the put sets after a put on given ones
   abbrev dataPuts : ℕ → ℕ
   dataPuts d = cond (isData sort) (join d s) d
@@ -86,32 +74,27 @@ module _ (t : List ℕ) (s sort : ℕ) (e : reply t (put s sort) .number ≡ 0) 
   abbrev c : ℕ
   c = configPuts (view t .round .configPuts)
 
-  puts-same : setPuts (setPuts t d c) d c ≡ setPuts t d c
-  unfolding setPuts
-  puts-same =
-      let l = put-head in
-      over-again t dataPutsAt (bytesOf 2 d ++ bytesOf 2 c) (rw (length-append, length-bytes 2 d, length-bytes 2 c) (omega arith))
-
   settle : s < 16 → (q : Bool) (a : ℕ) → (cond q (join (cond q (join a s) a) s) (cond q (join a s) a) ≡ cond q (join a s) a)
       × (cond q (cond q a (join a s)) (join (cond q a (join a s)) s) ≡ cond q a (join a s))
   settle l true a = (join-again a s l, refl)
   settle l false a = (refl, join-again a s l)
 
-  puts-again : done (setPuts t d c) (view (setPuts t d c)) (put s sort) ≡ setPuts t d c
+  put-settled : done (setPuts t d c) (view (setPuts t d c)) (put s sort) ≡ setPuts t d c
   unfolding done view needs
-  puts-again =
+  put-settled =
       let a = done-allowed t (put s sort) e in
       let f = done-law t (put s sort) e .isSound in
+      let head = sound-head t (a .0) in
       let k = f .small in
       let h = a .1 .0 .0 in
       let l : s < 16 = omega arith in
       ap (λ r. setPuts (setPuts t d c) (dataPuts (r .dataPuts)) (configPuts (r .configPuts)))
-      (puts-round t put-head d c (two-bytes _ f d (f .dataPuts)) (two-bytes _ f c (f .configPuts)))
-      ∙ rw (settle l (isData sort) (view t .round .dataPuts) .0, settle l (isData sort) (view t .round .configPuts) .1) puts-same
+      (puts-round t head d c (two-bytes _ f d (f .dataPuts)) (two-bytes _ f c (f .configPuts)))
+      ∙ rw (settle l (isData sort) (view t .round .dataPuts) .0, settle l (isData sort) (view t .round .configPuts) .1) (puts-again t head d c)
 
   put-twice : after (after t (put s sort)) (put s sort) ≡ after t (put s sort)
   unfolding done
-  put-twice = rw (done-after t (put s sort) e) (settled (setPuts t d c) (put s sort) puts-again)
+  put-twice = rw (done-after t (put s sort) e) (settled (setPuts t d c) (put s sort) put-settled)
 
 -- ---- a station that was polled, a put that was made before
 join-member : (a s : ℕ) → s < 16 → member a s ≡ true → join a s ≡ a
@@ -121,28 +104,14 @@ join-member a s l h =
     (λ i m. promise .member-join a i s l ∙ or-left (member a i) (eqb i s) m)
 
 module _ (t : List ℕ) (b : AreBytes t) where
-  own-polled : headSize ≤ length t → setPolled t (view t .round .polled) ≡ t
-  unfolding setPolled view
-  own-polled h = rw (number-bytes t polledAt 2 b (omega arith)) (over-own t polledAt 2 (omega arith))
-
-  own-puts : headSize ≤ length t → setPuts t (view t .round .dataPuts) (view t .round .configPuts) ≡ t
-  unfolding setPuts view
-  own-puts h =
-      let d = number-bytes t dataPutsAt 2 b (omega arith) in
-      let c = number-bytes t configPutsAt 2 b (omega arith) in
-      let x = part-length t dataPutsAt 2 (omega arith) in
-      let y = part-length t configPutsAt 2 (omega arith) in
-      let fits : dataPutsAt + length (part t dataPutsAt 2 ++ part t configPutsAt 2) ≤ length t = rw (length-append, x, y) (omega arith) in
-      rw (d, c) (over-append t dataPutsAt (part t dataPutsAt 2) (part t configPutsAt 2) fits
-      ∙ rw (x, over-own t dataPutsAt 2 (omega arith)) (over-own t configPutsAt 2 (omega arith)))
-
   polled-already : (s : ℕ) → member (view t .round .polled) s ≡ true → after t (poll s) ≡ t
   unfolding done needs view
   polled-already s m =
       by-number (λ (u : List ℕ). u ≡ t) t (poll s)
       (λ e. let f = done-law t (poll s) e .isSound .small in
-      let l = done-allowed t (poll s) e .1 .0 in
-      ap (setPolled t) (join-member (view t .round .polled) s (omega arith) m) ∙ own-polled (poll-head t s e)) refl
+      let a = done-allowed t (poll s) e in
+      let l = a .1 .0 in
+      ap (setPolled t) (join-member (view t .round .polled) s (omega arith) m) ∙ own-polled t (sound-head t (a .0)) b) refl
 
   put-already : (s sort : ℕ) → (sort ≡ dataSort → member (view t .round .dataPuts) s ≡ true)
       → (sort ≡ configSort → member (view t .round .configPuts) s ≡ true) → after t (put s sort) ≡ t
@@ -150,9 +119,9 @@ module _ (t : List ℕ) (b : AreBytes t) where
   put-already s sort md mc =
       by-number (λ (u : List ℕ). u ≡ t) t (put s sort)
       (λ e. let f = done-law t (put s sort) e .isSound .small in
-      let a = done-allowed t (put s sort) e .1 .0 in
-      let l = a .0 in
-      joined (omega arith) (a .1) ∙ own-puts (put-head t s sort e)) refl
+      let a = done-allowed t (put s sort) e in
+      let l = a .1 .0 .0 in
+      joined (omega arith) (a .1 .0 .1) ∙ own-puts t (sound-head t (a .0)) b) refl
     where
       d : ℕ
       d = view t .round .dataPuts

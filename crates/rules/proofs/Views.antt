@@ -1,8 +1,8 @@
--- States that look alike, figures that fit into a copy, and what the bytes hold after an opening: lemmas for Laws.antt.
+-- Figures that fit into a copy, and what the bytes hold after an opening: lemmas for Laws.antt.
 use mathlib.Core.Path.{_≡_, refl}
 use mathlib.Core.Bool.{true, false}
 use mathlib.Core.List.{List}
-use Prim.Native.Nat.{ℕ, _+_, _-_, _^_, _≤_, _<_}
+use Prim.Native.Nat.{ℕ, _-_, _^_, _≤_, _<_}
 use native.Mathlib.Omega.{arith}
 use lib.ListN.{length}
 use borrow.Author.Tests.{eqb-false}
@@ -10,62 +10,40 @@ use Rattle.basics.specs.Bytes.{AreBytes}
 use Rattle.quorum.specs.Sets.{within}
 use Rattle.quorum.proofs.Promise.{promise}
 use Rattle.quorum.specs.Configurations.{configSize}
-use Rattle.layout.specs.Layout.{valueAt, copyVersionAt, copyValueAt, copyGenerationAt}
-use Rattle.layout.specs.Fields.{Copy, Kind, none, read, write, change, kindOf, copyFrom}
+use Rattle.layout.specs.Fields.{Kind, none, read, write, change, kindOf}
 use Rattle.layout.specs.Rounds.{opened}
 use Rattle.layout.specs.View.{State, view, own, heard, foundByVersion, foundByGeneration}
 use Rattle.layout.specs.Updates.{setRound, noTarget}
-use Rattle.layout.proofs.Parts.{number-lt, bytes-zeros}
+use Rattle.basics.proofs.Parts.{bytes-zeros}
 use Rattle.layout.proofs.Soundness.{StateSound}
 use Rattle.layout.proofs.Held.{withRound, Holds, holds-round}
+use Rattle.layout.proofs.Stored.{Small, copy-small, value-small}
 use Rattle.layout.proofs.Newer.{heard-finds}
 use Rattle.rules.specs.Rules.{spent}
 use Rattle.rules.specs.Figures.{Figures, closing}
 use Rattle.rules.specs.Passed.{Word}
 
--- two states are alike: they differ at most in copies of items and stations that there are not
-pub record Like (v w : State) : Type 0 where
-  pub n : v .n ≡ w .n
-  pub m : v .m ≡ w .m
-  pub off : v .off ≡ w .off
-  pub round : v .round ≡ w .round
-  pub copies : (i s : ℕ) → i < w .m → s < w .n → v .copies i s ≡ w .copies i s
-
 -- ---- the figures of a commit fit into a copy
 abbrev pub Fit : Figures → Type 0
 Fit f = Word (f .first) × Word (f .second) × Word (f .third)
 
-record Words (x : Copy) : Type 0 where
-  version : x .version < 2 ^ 64
-  value : x .value < 2 ^ 64
-  generation : x .generation < 2 ^ 64
-
 module _ (t : List ℕ) (b : AreBytes t) where
-  copy-words : (at : ℕ) → Words (copyFrom t at)
-  unfolding copyFrom
-  copy-words at =
-      record {
-        version = number-lt t (at + copyVersionAt) 8 b;
-        value = number-lt t (at + copyValueAt) 8 b;
-        generation = number-lt t (at + copyGenerationAt) 8 b;
-      }
-
-  found-words : heard (view t) ≡ true → Words (foundByVersion (view t)) × Words (foundByGeneration (view t))
+  found-small : heard (view t) ≡ true → Small (foundByVersion (view t)) × Small (foundByGeneration (view t))
   unfolding view
-  found-words h =
+  found-small h =
       let x = heard-finds (own (view t)) (view t .round .polled) (view t .n) h in
-      (rw (x .version) (copy-words _), rw (x .generation) (copy-words _))
+      (rw (x .version) (copy-small t b _), rw (x .generation) (copy-small t b _))
 
   pub closing-fits : (k : Kind) → heard (view t) ≡ true → spent (view t) k ≡ false → Fit (closing (view t) k)
   unfolding view
   closing-fits none h e = (omega arith, omega arith, omega arith)
-  closing-fits read h e = let x = found-words h in (x .0 .value, x .0 .version, x .1 .generation)
+  closing-fits read h e = let x = found-small h in (x .0 .value, x .0 .version, x .1 .generation)
   closing-fits write h e =
-      let x = found-words h in
+      let x = found-small h in
       let ne : foundByVersion (view t) .version ≡ 2 ^ 64 - 1 → ⊥ = eqb-false _ _ e in
-      (number-lt t valueAt 8 b, omega (arith, x .0 .version), x .1 .generation)
+      (value-small t b, omega (arith, x .0 .version), x .1 .generation)
   closing-fits change h e =
-      let x = found-words h in
+      let x = found-small h in
       let ne : foundByGeneration (view t) .generation ≡ 2 ^ 64 - 1 → ⊥ = eqb-false _ _ e in
       (x .0 .value, x .0 .version, omega (arith, x .1 .generation))
 

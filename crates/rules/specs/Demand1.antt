@@ -3,7 +3,6 @@
 -- the table keeps its length, and stays bytes. That there is one reply and one table is said by `reply` and `after` being
 -- functions; that the code ends, equals them and touches nothing but what it is lent is in its contracts.
 use mathlib.Core.Path.{_≡_}
-use mathlib.Core.List.{List}
 use Prim.Native.Nat.{ℕ, _≤_}
 use lib.ListN.{length}
 use Rattle.basics.specs.Bytes.{AreBytes}

@@ -3,7 +3,6 @@
 -- 5.4, by quantifiers over stations and places.
 use mathlib.Core.Path.{_≡_}
 use mathlib.Core.Bool.{true, false}
-use mathlib.Core.List.{List}
 use mathlib.Core.Logic.{_↔_, _⊎_}
 use Prim.Native.Nat.{ℕ, _-_, _^_}
 use Rattle.quorum.specs.Configurations.{readSet, writeSet}

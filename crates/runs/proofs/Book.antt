@@ -12,9 +12,9 @@ use Rattle.basics.proofs.Tests.{by-cases}
 use Rattle.layout.specs.Layout.{tableLength, layLength}
 use Rattle.layout.specs.Soundness.{soundness, sound}
 use Rattle.layout.specs.View.{Table, view}
-use Rattle.layout.proofs.Parts.{bytes-zeros}
+use Rattle.basics.proofs.Parts.{bytes-zeros}
 use Rattle.rules.specs.Calls.{Call, isLay, lay, commit}
-use Rattle.rules.specs.Reply.{reply, after}
+use Rattle.rules.specs.Reply.{reply}
 use Rattle.rules.specs.Passed.{Passable}
 use Rattle.rules.specs.Lists.{replies}
 use Rattle.rules.specs.Book.{Book, fed}
@@ -27,7 +27,7 @@ use Rattle.frames.specs.Frame.{callOf}
 use Rattle.runs.specs.Session.{lent, replied, replyTo, tableOr, tableAfter}
 use Rattle.runs.specs.Calls.{withCall, callsIn, withReply, repliesIn, callThen, callsOn, replyThen, repliesOn, NoLayDone}
 use Rattle.frames.proofs.FrameLines.{passable}
-use Rattle.runs.proofs.Lent.{by-lay, lent-same, lent-lay, lent-bytes, replaced, kept, by-number, went-on}
+use Rattle.runs.proofs.Lent.{by-lay, lent-same, lent-lay, replaced, kept, by-number, went-on}
 
 -- ---- what a refusal keeps
 refused-book : (b : Book) (c : Call) (k : ℕ) → (k ≡ 0 → ⊥) → fed b c k ≡ b

@@ -1,6 +1,6 @@
 -- A long line can be cut.
 use mathlib.Core.Path.{_≡_, refl, ap}
-use mathlib.Core.Bool.{Bool, false}
+use mathlib.Core.Bool.{false}
 use mathlib.Core.List.{List, [], _∷_}
 use Prim.Native.Nat.{ℕ, _≤_, _<_}
 use native.Mathlib.Omega.{arith}
@@ -8,14 +8,14 @@ use lib.Dec.{leb}
 use lib.ListN.{length, take}
 use lib.Seq.{take-all, length-take-le}
 use borrow.Author.Tests.{leb-true, leb-false}
-use Rattle.basics.proofs.Tests.{by-cases}
+use Rattle.basics.proofs.Tests.{either}
 use Rattle.frames.specs.Hex.{bytesIn}
 use Rattle.frames.specs.Frame.{callByte, isFrame, callOf}
 use Rattle.runs.specs.Pieces.{enough, clip}
 use Rattle.dispatch.proofs.Codes.{frame-length-le}
 use Rattle.frames.proofs.FrameLines.{not-frame}
 
-clip-all : (line : List ℕ) → length line ≤ enough → clip line ≡ line
+pub clip-all : (line : List ℕ) → length line ≤ enough → clip line ≡ line
 unfolding clip
 clip-all line h = take-all enough line h
 
@@ -36,5 +36,5 @@ cut-both line h =
 
 pub call-clip : (line : List ℕ) → callOf (clip line) ≡ callOf line
 call-clip line =
-    by-cases (λ (b : Bool). leb (length line) enough ≡ b → callOf (clip line) ≡ callOf line) (leb (length line) enough)
-    (λ _ e. ap callOf (clip-all line (leb-true (length line) enough e))) (λ _ e. cut-both line (leb-false (length line) enough e)) refl
+    either (leb (length line) enough)
+    (λ e. ap callOf (clip-all line (leb-true (length line) enough e))) (λ e. cut-both line (leb-false (length line) enough e))

@@ -3,7 +3,7 @@ use mathlib.Core.Path.{_≡_, refl}
 use mathlib.Core.List.{List, [], _∷_, _++_}
 use Prim.Native.Nat.{ℕ}
 use Prim.Native.String.{String}
-use Rattle.basics.specs.Bytes.{littleEndian, bytesOf}
+use Rattle.basics.specs.Bytes.{littleEndian, bytesOf, over}
 use Rattle.basics.specs.Tests.{all, allBelow, anyBelow}
 use Rattle.quorum.specs.Sets.{member, used, holds, shares, within, join, minus, remove, full}
 use Rattle.quorum.specs.Configurations.{setAt, readSet, writeSet, usedFirst, someUsed, allWithin, sharesAll, allShare}
@@ -12,7 +12,7 @@ use Rattle.layout.specs.Layout.{address, tableLength}
 use Rattle.layout.specs.Fields.{copyFrom}
 use Rattle.layout.specs.Soundness.{roundSound, copiesValid, soundness, sound}
 use Rattle.layout.specs.View.{view}
-use Rattle.layout.specs.Updates.{over, setOff, setPolled, setPuts, setRound, putData, putConfig, copyBytes, repeated, putCopies}
+use Rattle.layout.specs.Updates.{setOff, setPolled, setPuts, setRound, putData, putConfig, copyBytes, repeated, putCopies}
 use Rattle.layout.specs.Newest.{newest, byVersion, byGeneration, hears}
 use Rattle.layout.specs.Layout.{layLength}
 use Rattle.rules.specs.Rules.{first, tests, refusals, numberOf}
@@ -24,7 +24,7 @@ use Rattle.runs.specs.Session.{lent, replyTo, tableAfter, printed}
 use Rattle.runs.specs.Run.{answers, run}
 use Rattle.frames.specs.Hex.{isDigit, allDigits, valueOf, byteOf, bytesIn, digitOf, hexOf}
 use Rattle.dispatch.specs.Dispatch.{frameLength, callsOf, callAt}
-use Rattle.frames.specs.Frame.{callByte, isFrame, callOf, frameOf}
+use Rattle.frames.specs.Frame.{callByte, isFrame, callOf}
 use Rattle.runs.specs.Lines.{inFront, linesOf}
 use Rattle.frames.proofs.Text.{chars, text}
 

@@ -1,6 +1,6 @@
 -- What a call is lent, and the table in use after it.
 use mathlib.Core.Path.{_≡_, refl, sym, ap, _∙_}
-use mathlib.Core.Bool.{Bool, false}
+use mathlib.Core.Bool.{false}
 use mathlib.Core.List.{List, []}
 use mathlib.Core.Logic.{_⊎_, inl, inr}
 use mathlib.Core.Option.{some}
@@ -11,7 +11,7 @@ use lib.ListN.{replicate}
 use Rattle.basics.specs.Bytes.{AreBytes}
 use Rattle.layout.specs.Layout.{layLength}
 use Rattle.layout.specs.View.{view}
-use Rattle.layout.proofs.Parts.{bytes-zeros}
+use Rattle.basics.proofs.Parts.{bytes-zeros}
 use Rattle.rules.specs.Calls.{Call, lay, isLay}
 use Rattle.rules.specs.Reply.{reply, after}
 use Rattle.rules.proofs.Judged.{IsLay, of-lay, judged}

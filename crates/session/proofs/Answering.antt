@@ -8,9 +8,8 @@ use native.Mathlib.Omega.{arith}
 use lib.Dec.{ltb}
 use lib.ListN.{length, getD, take, drop, length-replicate, take-append-drop}
 use lib.Seq.{take-at, drop-at, length-take-le}
-use Rattle.basics.specs.Bytes.{number}
-use Rattle.basics.proofs.Tests.{by-cases}
-use Rattle.layout.specs.Updates.{over}
+use Rattle.basics.specs.Bytes.{number, over}
+use Rattle.basics.proofs.Tests.{_also_, by-cases}
 use Rattle.rules.specs.Calls.{Call, lay, isLay}
 use Rattle.rules.specs.After.{done}
 use Rattle.rules.specs.Reply.{reply, after}
@@ -18,7 +17,7 @@ use Rattle.rules.specs.declared.Reply.{Reply}
 use Rattle.rules.proofs.Laws.{done-after}
 use Rattle.rules.proofs.Demands.{twice}
 use Rattle.dispatch.specs.Dispatch.{frameLength, callsOf, callAt, replyOr, afterOr}
-use Rattle.dispatch.proofs.Entries.{Each, each-at, _also_}
+use Rattle.dispatch.proofs.Entries.{Each, each-at}
 use Rattle.dispatch.proofs.Codes.{enough}
 use Rattle.frames.specs.Frame.{callByte, callOf}
 use Rattle.frames.specs.Reading.{mostArguments}

@@ -2,7 +2,7 @@
 ghost use mathlib.Core.Path.{_≡_};
 ghost use Prim.Native.Nat.{_+_, _≤_};
 ghost use lib.ListN.{length, take};
-ghost use Rattle.layout.specs.Updates.{over};
+ghost use Rattle.basics.specs.Bytes.{over};
 ghost use Rattle.dispatch.specs.Dispatch.{callAt};
 ghost use Rattle.frames.specs.Reading.{mostArguments};
 ghost use Rattle.replies.specs.ReplyLine.{replyLineSize};

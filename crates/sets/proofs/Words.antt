@@ -1,6 +1,6 @@
 -- Sets of 16 bits, as the code has them.
 use mathlib.Core.Path.{_≡_, refl, sym, _∙_}
-use mathlib.Core.Bool.{Bool, true, false, not, _&&_}
+use mathlib.Core.Bool.{Bool, true, false, not}
 use mathlib.Core.Logic.{_↔_}
 use Prim.Native.Nat.{ℕ, _-_, _*_, _/_, _%_, _^_, _≤_, _<_}
 use native.Mathlib.Nat.{min-eq-left, min-eq-right, one-mul, mod-eq-of-lt, le-of-lt, div-lt-iff-lt-mul}
@@ -8,7 +8,7 @@ use native.Mathlib.Omega.{arith}
 use lib.Dec.{eqb}
 use lib.Pow.{pow-pos, pow-lt, pow-mono}
 use borrow.Author.Tests.{ltb-true, lt-ltb, eqb-true, eq-eqb, ne-eqb}
-use Rattle.basics.proofs.Tests.{same-test, by-cases, and-left, clash}
+use Rattle.basics.proofs.Tests.{same-test, by-cases, and-left}
 use Rattle.quorum.specs.Sets.{member, within, remove, full}
 use Rattle.quorum.proofs.Promise.{promise}
 

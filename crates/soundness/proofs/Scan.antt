@@ -12,14 +12,13 @@ use Rattle.basics.specs.Tests.{all, allBelow}
 use Rattle.basics.specs.Bytes.{number}
 use Rattle.quorum.specs.Sets.{shares, within, unite}
 use Rattle.quorum.specs.Configurations.{valid, validAt, validTo}
-use Rattle.basics.proofs.Tests.{by-cases, same-test, and-left, and-right, and-both, all-true, all-same}
-use Rattle.basics.proofs.Bytes.{number-none, number-suc}
+use Rattle.basics.proofs.Tests.{same-test, and-left, and-right, and-both, all-true, all-same}
+use Rattle.basics.proofs.Bytes.{number-none, number-suc, number-one}
 use Rattle.quorum.proofs.Promise.{promise}
 use Rattle.layout.specs.Layout.{kindAt, itemAt, spareAt, targetAt, copyConfigAt, copySize, address, tableLength}
 use Rattle.layout.specs.Fields.{Kind, none, read, write, change, kindOf, stations, items, offSet, roundOf, copyFrom}
 use Rattle.layout.specs.Soundness.{isZero, roundSound, copiesValid, soundness, sound}
 use Rattle.soundness.specs.Scan.{sizeSound, headSound, roundBlank, targetSound, configsFrom, restSound}
-use Rattle.layout.proofs.Numbers.{number-one}
 
 -- ---- two tests, and the numbers below a sum
 and-same : {a b c d : Bool} → a ≡ b → c ≡ d → (a && c) ≡ (b && d)

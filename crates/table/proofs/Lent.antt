@@ -6,7 +6,7 @@ use native.Mathlib.Nat.{le-of-eq, add-assoc}
 use lib.ListN.{length, take, drop, length-drop, drop-of-length-le}
 use lib.Seq.{take-all, take-add, drop-drop}
 use borrow.Rule.Slice.PartMut.{midOf, putMid}
-use Rattle.layout.specs.Updates.{over}
+use Rattle.basics.specs.Bytes.{over}
 
 -- the part that is lent, and the whole when the part is back
 lent : (t : List ℕ) (a : ℕ) → midOf a (length t - a) t ≡ drop a t

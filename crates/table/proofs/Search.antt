@@ -9,7 +9,7 @@ use native.Mathlib.Omega.{arith}
 use lib.Dec.{ltb, eqb}
 use borrow.Author.Tests.{eqb-true, eqb-false, eq-eqb, ne-eqb}
 use Rattle.quorum.specs.Sets.{member, used, remove, lowest}
-use Rattle.basics.proofs.Tests.{clash, by-cases}
+use Rattle.basics.proofs.Tests.{clash, by-cases, either}
 use Rattle.quorum.proofs.Promise.{promise}
 use Rattle.layout.specs.Layout.{copySize, address}
 use Rattle.layout.specs.Fields.{Copy, copyFrom}
@@ -88,10 +88,10 @@ module _ (key : ℕ → ℕ) where
     unfolding onto
     onto-lowest zero l = absurd (not-suc-le-zero l)
     onto-lowest (suc k) l =
-        by-cases (λ (b : Bool). eqb k s ≡ b → onto key o set (suc k) ≡ onto key (newer key s o) (remove set s) (suc k)) (eqb k s)
-        (λ _ e. rw (eqb-true k s e, m, onto-none o set s low, taken-out)
+        either (eqb k s)
+        (λ e. rw (eqb-true k s e, m, onto-none o set s low, taken-out)
         (sym (onto-none (newer key s o) (remove set s) s (λ i l. others i (λ z. omega arith) ∙ low i l))))
-        (λ _ e. let h : k ≡ s → ⊥ = eqb-false k s e in rw (onto-lowest k (omega arith), others k h)) refl
+        (λ e. let h : k ≡ s → ⊥ = eqb-false k s e in rw (onto-lowest k (omega arith), others k h))
 
 -- a set that is not 0 has a station
 not-empty : (a : ℕ) → (a ≡ 0 → ⊥) → used a ≡ true

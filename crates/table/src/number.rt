@@ -3,9 +3,8 @@ ghost use mathlib.Core.Path.{_≡_};
 ghost use mathlib.Core.List.{_∷_};
 ghost use Prim.Native.Nat.{_+_, _≤_, _<_};
 ghost use lib.ListN.{length, replicate};
-ghost use Rattle.basics.specs.Bytes.{part, number, bytesOf};
+ghost use Rattle.basics.specs.Bytes.{part, number, bytesOf, over};
 ghost use Rattle.quorum.specs.Configurations.{configSize};
-ghost use Rattle.layout.specs.Updates.{over};
 use quorum::CONFIG_SIZE;
 
 // The number in one byte.

@@ -8,13 +8,13 @@ use native.Mathlib.Nat.{zero-add, add-zero, le-refl}
 use native.Mathlib.Omega.{arith}
 use lib.ListN.{length, getD}
 use lib.Dec.{eqb, ltb}
-use lib.Bits.{bitAnd, bitOr, or-add-and, and-le-r, or-zero-l, and-block, and-le-l}
+use lib.Bits.{bitAnd, bitOr, or-add-and, and-le-r, or-zero-l, and-block}
 use borrow.Author.Tests.{eq-eqb, ne-eqb, eqb-true, eqb-false, ltb-true, ltb-false, lt-ltb, not-true, not-false}
 use Rattle.quorum.specs.Sets.{member, used, holds, shares, within, minus, full}
 use Rattle.quorum.specs.Configurations.{setAt, readSet, writeSet, valid}
 use Rattle.validity.specs.Pairs.{filled, filledSide, rowOk, pairsOk, four, FourFit, outsideOf, fourWithin}
 use Rattle.quorum.specs.Promise.{Side, Valid}
-use Rattle.basics.proofs.Tests.{clash, by-cases, fails, same-test, and-left, and-right, and-both, all-below, below-all}
+use Rattle.basics.proofs.Tests.{clash, fails, same-test, and-left, and-right, and-both, all-below, below-all, either}
 use Rattle.quorum.proofs.Promise.{promise}
 
 -- a configuration without the facts of a valid one fails the test
@@ -74,10 +74,6 @@ reads-at c k l = filled-at c 0 k l ∙ ap (λ side. place side k) (fun-ext (λ j
 writes-at : (c : List ℕ) (k : ℕ) → k < 8 → getD (filledSide c 8) k 0 ≡ place (writeSet c) k
 unfolding writeSet
 writes-at c k l = filled-at c 8 k l
-
--- a test, both ways
-either : {A : Type 0} (b : Bool) → (b ≡ true → A) → (b ≡ false → A) → A
-either {A} b f g = by-cases (λ (x : Bool). b ≡ x → A) b (λ _ e. f e) (λ _ e. g e) refl
 
 -- a place that has a member has no gap behind it
 no-gap : (side : ℕ → ℕ) (k : ℕ) → k < 7 → (i : ℕ) → member (place side k) i ≡ true → used (side (suc k)) ≡ true → used (side k) ≡ true

@@ -6,7 +6,7 @@ use Prim.Native.Nat.{ℕ, zero, suc, _+_, _-_, _*_, _≤_, _<_}
 use native.Mathlib.Omega.{arith}
 use native.Mathlib.Numerals.{add-one}
 use native.Mathlib.Nat.{mul-suc, mul-zero, mul-add}
-use lib.ListN.{length, getD, drop, length-take, length-drop}
+use lib.ListN.{length, getD, drop}
 use lib.Seq.{take-all, ext-getD, getD-take, getD-drop}
 use lib.Dec.{eqb, ltb}
 use borrow.Author.Tests.{eqb-true, ltb-true, ltb-false}
@@ -14,10 +14,8 @@ use Rattle.basics.specs.Tests.{allBelow}
 use Rattle.basics.specs.Bytes.{part}
 use Rattle.quorum.specs.Configurations.{valid, validAt, validTo}
 use Rattle.validity.specs.Pairs.{sameAgain, sameLane, sameBlock}
-use Rattle.basics.proofs.Tests.{clash, by-cases, and-both, all-below, below-all}
-
-part-length : (t : List ℕ) (a w : ℕ) → a + w ≤ length t → length (part t a w) ≡ w
-part-length t a w h = simp (length-take, length-drop) (omega arith)
+use Rattle.basics.proofs.Parts.{part-length}
+use Rattle.basics.proofs.Tests.{clash, by-cases, and-both, all-below, below-all, either}
 
 -- parts with the same bytes
 pub same-part : (t : List ℕ) (a b w : ℕ) → a + w ≤ length t → b + w ≤ length t
@@ -85,7 +83,7 @@ module _ (n : ℕ) (t : List ℕ) (at stride : ℕ) where
       → sameBlock t (at + stride * (k - 1)) stride ≡ true → validTo n t at stride k ≡ true → validTo n t at stride (k + 8) ≡ true
   unfolding validTo
   eight-more k ne room e v = below-all _ (k + 8) (λ i l.
-      by-cases (λ _. validAt n t (at + stride * i) ≡ true) (ltb i k) (λ below. all-below _ k v i (ltb-true _ _ below))
+      either (ltb i k) (λ below. all-below _ k v i (ltb-true _ _ below))
       (λ above. later i l (ltb-false _ _ above)))
     where
       later : (i : ℕ) → i < k + 8 → k ≤ i → validAt n t (at + stride * i) ≡ true

@@ -7,20 +7,20 @@ use native.Mathlib.Omega.{arith}
 use native.Mathlib.Nat.{add-zero, zero-add, suc-add, mul-le-mul, not-suc-le-zero}
 use native.Mathlib.Numerals.{add-one}
 use lib.Dec.{eqb}
-use lib.ListN.{length, drop, replicate, length-append, take-append-drop}
-use lib.Seq.{take-all, drop-drop}
+use lib.ListN.{length, replicate, length-append}
+use lib.Seq.{take-all}
 use borrow.Author.Tests.{eqb-true, not-false}
 use Rattle.quorum.specs.Sets.{member}
-use Rattle.basics.specs.Bytes.{part, bytesOf}
+use Rattle.basics.specs.Bytes.{part, bytesOf, over}
 use Rattle.basics.proofs.Tests.{or-false-left, or-false-right}
 use Rattle.quorum.proofs.Promise.{promise}
 use Rattle.quorum.specs.Configurations.{configSize}
 use Rattle.layout.specs.Layout.{headSize, copiesAt, copySize, address, tableLength}
 use Rattle.layout.specs.Fields.{Copy, Round}
 use Rattle.table.specs.Search.{InTable}
-use Rattle.layout.specs.Updates.{over, putData, putConfig, copyBytes, repeated, laid, putCopies}
-use Rattle.layout.proofs.Parts.{part-left, part-length, length-over, part-inside, part-whole, length-bytes, over-again, over-append}
-use Rattle.layout.proofs.Writing.{over-all}
+use Rattle.layout.specs.Updates.{putData, putConfig, copyBytes, repeated, laid, putCopies}
+use Rattle.basics.proofs.Parts.{part-left, part-length, length-over, part-inside, part-whole, length-bytes, over-again, over-append, over-own}
+use Rattle.basics.proofs.Writing.{over-all}
 use Rattle.layout.proofs.Fields.{address-head, copy-length}
 use Rattle.layout.proofs.Stored.{repeated-length}
 
@@ -64,11 +64,6 @@ whole-copy t at x v g config fits long =
     let f : length back ≡ 40 = rw (length-append, length-bytes 8 g, long) in
     rw (add-zero at, ← append-assoc (bytesOf 8 x) (bytesOf 8 v) back)
     (sym (over-append t at front back (rw (length-append front back, e, f) fits) ∙ rw e))
-
--- bytes written where they are already
-over-own : (t : List ℕ) (a k : ℕ) → a + k ≤ length t → over t a (part t a k) ≡ t
-unfolding over
-over-own t a k h = rw (part-length t a k h, ← drop-drop k a t, take-append-drop k (drop a t)) (take-append-drop a t)
 
 -- bytes written over the first of them
 over-first : (t : List ℕ) (a : ℕ) (l r : List ℕ) → a + length (l ++ r) ≤ length t → over (over t a l) a (l ++ r) ≡ over t a (l ++ r)

@@ -1,4 +1,4 @@
-use mathlib.Core.Path.{refl, _∙_}
+use mathlib.Core.Path.{_∙_}
 use Rattle.layout.specs.View.{view}
 use Rattle.layout.proofs.Soundness.{sound-head, is-sound}
 use Rattle.rounds.proofs.Hearing.{items-in-table}

@@ -4,9 +4,10 @@ use Prim.Native.Nat.{_≤_}
 use native.Mathlib.Omega.{arith}
 use lib.ListN.{length, take, length-take}
 use Rattle.runs.specs.Pieces.{enough, clip}
+use Rattle.runs.proofs.Clipped.{clip-all}
 use Rattle.lines.specs.Splitting.{stretch}
 use Rattle.lines.proofs.Stretches.{end-forward}
-use Rattle.feeding.proofs.Taking.{clip-short, took-line}
+use Rattle.feeding.proofs.Taking.{took-line}
 use borrow.Author.Needs.{needs}
 use Rattle.feeding.proofs.take_line.Statement.{statement}
 use Rattle.feeding.proofs.take_line.Tie as tie
@@ -109,7 +110,7 @@ returns-2 c =
     let short : length line ≤ enough = rw length-take (omega (arith, k .ensures .0)) in
     let took =
     took-line (a .piece .now) (a .table .now) (a .line .now) (a .out .now) (a .s) (a .end) (p .pre .1 .0) fits line _ _ _ _
-    (p .pre .1 .1) (p .pre .0 .1) (clip-short line short ∙ k .ensures .1) (x .ensures .0) (x .ensures .1) (x .kept .1 .0) (k .kept .1 .0) (x .kept .1 .1 .0)
+    (p .pre .1 .1) (p .pre .0 .1) (clip-all line short ∙ k .ensures .1) (x .ensures .0) (x .ensures .1) (x .kept .1 .0) (k .kept .1 .0) (x .kept .1 .1 .0)
     in
     (took, omega (arith, x .ensures .1, end-forward (a .piece .now) (a .s .at) (a .end) (p .pre .1 .0)))
 

@@ -1,4 +1,4 @@
-use mathlib.Core.Path.{refl, _∙_}
+use mathlib.Core.Path.{refl}
 use Rattle.layout.proofs.Soundness.{sound-head}
 use Rattle.rules.specs.Calls.{abandon}
 use Rattle.rules.specs.Figures.{figuresOf}

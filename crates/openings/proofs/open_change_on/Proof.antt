@@ -1,7 +1,6 @@
 use mathlib.Core.Path.{refl, _∙_}
 use native.Mathlib.Omega.{arith}
 use lib.Seq.{take-all}
-use Rattle.quorum.proofs.Promise.{promise}
 use Rattle.layout.proofs.Soundness.{sound-head}
 use Rattle.rules.specs.Calls.{openChange}
 use Rattle.rules.specs.Figures.{figuresOf}

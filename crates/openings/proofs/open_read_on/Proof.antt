@@ -1,5 +1,4 @@
-use mathlib.Core.Path.{refl, _∙_}
-use Rattle.layout.specs.View.{view}
+use mathlib.Core.Path.{refl}
 use Rattle.layout.proofs.Soundness.{sound-head}
 use Rattle.rules.specs.Calls.{openRead}
 use Rattle.rules.specs.Figures.{figuresOf}

@@ -4,7 +4,7 @@ use mathlib.Core.Option.{Option}
 use Prim.Native.Nat.{ℕ}
 use native.Mathlib.Omega.{arith}
 use lib.ListN.{take, length-take}
-use Rattle.layout.specs.Updates.{over}
+use Rattle.basics.specs.Bytes.{over}
 use Rattle.rules.specs.Calls.{Call}
 use Rattle.dispatch.specs.Dispatch.{callAt}
 use Rattle.frames.specs.Frame.{callOf}

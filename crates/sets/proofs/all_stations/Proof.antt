@@ -1,4 +1,3 @@
-use Rattle.quorum.specs.Sets.{full}
 use Rattle.sets.proofs.Words.{one-shl, full-small, full-all}
 use lib.Pow.{pow-pos}
 use borrow.Author.Needs.{needs}

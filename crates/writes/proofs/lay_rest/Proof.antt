@@ -1,8 +1,8 @@
 use borrow.Author.Needs.{needs}
 use Rattle.writes.proofs.Writes.{lay-start, lay-turn}
-use Rattle.layout.proofs.Parts.{part-length}
-use Rattle.layout.specs.Updates.{over, repeated}
-use Rattle.basics.specs.Bytes.{part}
+use Rattle.basics.proofs.Parts.{part-length}
+use Rattle.layout.specs.Updates.{repeated}
+use Rattle.basics.specs.Bytes.{part, over}
 use native.Mathlib.Omega.{arith}
 use Prim.Native.Nat.{_-_, _≤_}
 use mathlib.Core.Path.{_≡_, refl, _∙_}

@@ -1,5 +1,5 @@
-use Rattle.layout.proofs.Writing.{Writing, writing-start, writing-turn, writing-end, part-next, list-done}
-use Rattle.layout.proofs.Parts.{part-length}
+use Rattle.basics.proofs.Writing.{Writing, writing-start, writing-turn, writing-end, part-next, list-done}
+use Rattle.basics.proofs.Parts.{part-length}
 use Rattle.basics.specs.Bytes.{part}
 use native.Mathlib.Omega.{arith}
 use Prim.Native.Nat.{_-_, _≤_}

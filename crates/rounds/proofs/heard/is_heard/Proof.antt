@@ -1,4 +1,4 @@
-use mathlib.Core.Path.{sym, _∙_}
+use mathlib.Core.Path.{sym}
 use borrow.Author.Needs.{needs}
 use Rattle.table.proofs.Search.{copy-range, copy-fits}
 use Rattle.rounds.proofs.Hearing.{station-below, nobody-unheard, hears-there}

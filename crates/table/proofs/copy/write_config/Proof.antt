@@ -1,5 +1,5 @@
 use mathlib.Core.Path.{_∙_}
-use Rattle.layout.proofs.Writing.{over-number}
+use Rattle.basics.proofs.Writing.{over-number}
 use Rattle.layout.specs.Updates.{putConfig}
 use borrow.Author.Needs.{needs}
 use Rattle.table.proofs.copy.write_config.Statement.{statement}

@@ -1,6 +1,6 @@
 use mathlib.Core.Path.{_∙_}
 use Rattle.layout.specs.Updates.{putData}
-use Rattle.layout.proofs.Writing.{over-numbers}
+use Rattle.basics.proofs.Writing.{over-numbers}
 use borrow.Author.Needs.{needs}
 use Rattle.table.proofs.copy.write_data.Statement.{statement}
 use Rattle.table.proofs.copy.write_data.Tie as tie

@@ -1,5 +1,5 @@
 use Rattle.layout.specs.Layout.{kindAt}
-use Rattle.layout.proofs.Numbers.{number-one}
+use Rattle.basics.proofs.Bytes.{number-one}
 use borrow.Author.Needs.{needs}
 use Rattle.table.proofs.head.kind.Statement.{statement}
 use Rattle.table.proofs.head.kind.Tie as tie

@@ -1,5 +1,5 @@
 use Rattle.layout.specs.Updates.{setPuts}
-use Rattle.layout.proofs.Writing.{over-numbers}
+use Rattle.basics.proofs.Writing.{over-numbers}
 use mathlib.Core.Path.{_∙_}
 use borrow.Author.Needs.{needs}
 use Rattle.table.proofs.head.set_puts.Statement.{statement}

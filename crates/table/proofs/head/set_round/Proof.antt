@@ -1,6 +1,6 @@
 use mathlib.Core.Path.{_∙_}
 use Rattle.layout.specs.Updates.{setRound}
-use Rattle.layout.proofs.Writing.{over-number}
+use Rattle.basics.proofs.Writing.{over-number}
 use borrow.Author.Needs.{needs}
 use Rattle.table.proofs.head.set_round.Statement.{statement}
 use Rattle.table.proofs.head.set_round.Tie as tie

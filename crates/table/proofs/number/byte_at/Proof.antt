@@ -1,5 +1,5 @@
 use native.Mathlib.Omega.{arith}
-use Rattle.layout.proofs.Numbers.{number-one}
+use Rattle.basics.proofs.Bytes.{number-one}
 use borrow.Author.Needs.{needs}
 use Rattle.table.proofs.number.byte_at.Statement.{statement}
 use Rattle.table.proofs.number.byte_at.Tie as tie

@@ -1,8 +1,8 @@
 use native.Mathlib.Omega.{arith}
 use mathlib.Core.Path.{sym, _∙_}
-use Rattle.layout.proofs.Writing.{Writing, writing-start, writing-turn, writing-end, part-next, list-done, over-all}
+use Rattle.basics.proofs.Writing.{Writing, writing-start, writing-turn, writing-end, part-next, list-done, over-all}
 use native.Mathlib.Nat.{zero-add}
-use Rattle.layout.proofs.Parts.{part-length}
+use Rattle.basics.proofs.Parts.{part-length}
 use borrow.Author.Needs.{needs}
 use Prim.Native.Nat.{_-_, _≤_}
 use lib.ListN.{drop}

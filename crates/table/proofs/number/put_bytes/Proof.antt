@@ -3,7 +3,7 @@ use native.Mathlib.Nat.{sub-zero}
 use Prim.Native.Nat.{_-_, _≤_}
 use mathlib.Core.Path.{refl}
 use Rattle.basics.specs.Bytes.{bytesOf}
-use Rattle.layout.proofs.Writing.{Writing, writing-start, writing-turn, writing-end, number-next, number-done}
+use Rattle.basics.proofs.Writing.{Writing, writing-start, writing-turn, writing-end, number-next, number-done}
 use Rattle.table.proofs.number.put_bytes.Statement.{statement}
 use Rattle.table.proofs.number.put_bytes.Tie as tie
 

@@ -1,4 +1,4 @@
-use Rattle.layout.proofs.Writing.{Writing, writing-start, writing-turn, writing-end, list-next, list-done}
+use Rattle.basics.proofs.Writing.{Writing, writing-start, writing-turn, writing-end, list-next, list-done}
 use borrow.Author.Needs.{needs}
 use Prim.Native.Nat.{_-_, _≤_}
 use mathlib.Core.Path.{refl}

@@ -1,7 +1,7 @@
 use native.Mathlib.Omega.{arith}
 use mathlib.Core.Path.{_∙_}
 use lib.ListN.{length-set}
-use Rattle.layout.proofs.Writing.{over-pair}
+use Rattle.basics.proofs.Writing.{over-pair}
 use borrow.Author.Needs.{needs}
 use Rattle.table.proofs.number.put_pair.Statement.{statement}
 use Rattle.table.proofs.number.put_pair.Tie as tie

@@ -3,7 +3,7 @@ use native.Mathlib.Nat.{sub-zero}
 use Prim.Native.Nat.{_-_, _≤_}
 use mathlib.Core.Path.{refl}
 use lib.ListN.{replicate}
-use Rattle.layout.proofs.Writing.{Writing, writing-start, writing-turn, writing-end, zeros-next, zeros-done}
+use Rattle.basics.proofs.Writing.{Writing, writing-start, writing-turn, writing-end, zeros-next, zeros-done}
 use Rattle.table.proofs.number.put_zeros.Statement.{statement}
 use Rattle.table.proofs.number.put_zeros.Tie as tie
 

@@ -7,9 +7,8 @@ use native.Mathlib.Nat.{zero-add, add-zero, add-assoc}
 use native.Mathlib.Numerals.{add-one}
 use lib.ListN.{length, getD, drop, set, replicate, length-append, length-set, drop-of-length-le}
 use lib.Seq.{drop-cons, getD-take, getD-drop}
-use Rattle.basics.specs.Bytes.{part, bytesOf}
-use Rattle.layout.specs.Updates.{over}
-use Rattle.layout.proofs.Parts.{part-length, length-bytes, over-cons, over-nil, over-append}
+use Rattle.basics.specs.Bytes.{over, part, bytesOf}
+use Rattle.basics.proofs.Parts.{part-length, length-bytes, over-cons, over-nil, over-append}
 
 -- two bytes, and a list behind them
 pub over-pair : (t : List ℕ) (a x y : ℕ) (l : List ℕ) → a + 1 < length t → over (set (set t a x) (a + 1) y) (a + 2) l ≡ over t a (x ∷ y ∷ l)

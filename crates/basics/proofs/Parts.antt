@@ -6,8 +6,7 @@ use native.Mathlib.Omega.{arith}
 use native.Mathlib.Nat.{one-le-pow, zero-lt-suc, add-zero}
 use lib.ListN.{length, take, drop, set, replicate, length-append, length-take, length-drop, length-set, take-append-drop}
 use lib.Seq.{take-at, drop-at, length-take-le, take-append-le, drop-append-le, drop-append-add, drop-drop, take-all, take-suc-set, drop-set-lt, append-snoc}
-use Rattle.basics.specs.Bytes.{part, littleEndian, number, AreBytes, bytesOf}
-use Rattle.layout.specs.Updates.{over}
+use Rattle.basics.specs.Bytes.{over, part, littleEndian, number, AreBytes, bytesOf}
 
 -- ---- parts
 pub part-left : (xs ys : List ℕ) (a k : ℕ) → a + k ≤ length xs → part (xs ++ ys) a k ≡ part xs a k
