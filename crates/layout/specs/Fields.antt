@@ -8,7 +8,7 @@ use Rattle.layout.specs.Layout.{copyVersionAt, copyValueAt, copyGenerati
 
 -- One copy: the data replica (version and value) and the configuration replica (generation and configuration) of source 000
 -- at one station. Here both counters are numbers; "A version is compared only with versions, and a generation only with
--- generations" is kept by the code's types (layout/src/copy.rt).
+-- generations" is kept by the code's types (table/src/copy.rt).
 pub record Copy : Type 0 where
   pub version : ℕ
   pub value : ℕ

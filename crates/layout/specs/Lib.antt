@@ -4,5 +4,6 @@ pub mod Rounds
 pub mod Newest
 pub mod Soundness
 pub mod View
+pub mod TableFacts
 pub mod SoundFacts
 pub mod Updates

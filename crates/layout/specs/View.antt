@@ -1,7 +1,8 @@
 -- What the rules know of a table: the numbers and figures of the replies speak of this state alone, and of no offset.
+use mathlib.Core.Path.{_≡_}
 use mathlib.Core.Bool.{Bool}
 use mathlib.Core.List.{List}
-use Prim.Native.Nat.{ℕ}
+use Prim.Native.Nat.{ℕ, _<_}
 use lib.ListN.{length}
 use lib.Dec.{eqb}
 use Rattle.layout.specs.Layout.{tableLength}
@@ -35,6 +36,14 @@ view t =
       round = roundOf t;
       copies = copyOf t;
     }
+
+-- two states of the same stations and items, with the same head and the same copies of them
+pub record SameContents (v w : State) : Type 0 where
+  pub n : v .n ≡ w .n
+  pub m : v .m ≡ w .m
+  pub off : v .off ≡ w .off
+  pub round : v .round ≡ w .round
+  pub copies : (i s : ℕ) → i < w .m → s < w .n → v .copies i s ≡ w .copies i s
 
 -- ---- the open round: its item's copies, what its polled copies give, whether it is heard
 abbrev pub own : State → ℕ → Copy

@@ -14,7 +14,7 @@ use Rattle.quorum.specs.Configurations.{valid}
 use Rattle.layout.specs.Fields.{Kind, none, read, write, change}
 use Rattle.layout.specs.Rounds.{withPoll, withPut, withLink}
 use Rattle.layout.specs.Newest.{hears}
-use Rattle.layout.specs.View.{Table, State, view, own, foundByVersion, foundByGeneration, heard}
+use Rattle.layout.specs.View.{Table, State, view, own, foundByVersion, foundByGeneration, heard, SameContents}
 use Rattle.layout.proofs.Soundness.{is-sound}
 use Rattle.layout.proofs.Newer.{by-version-same, by-generation-same, hears-same}
 use Rattle.layout.proofs.Stored.{stored}
@@ -26,7 +26,7 @@ use Rattle.rules.specs.After.{stores}
 use Rattle.rules.specs.Reply.{replyOf, reply, after, answer}
 use Rattle.rules.specs.Lists.{replies, afterAll, AllPassable}
 use Rattle.rules.specs.Needs.{needs, Allowed}
-use Rattle.rules.specs.Alike.{SameContents, Alike, AlikeTables}
+use Rattle.rules.specs.Alike.{Alike, AlikeTables}
 use Rattle.rules.proofs.Judged.{allowed, lay-number, sound-number, unsound-number}
 use Rattle.rules.proofs.States.{next}
 use Rattle.rules.proofs.Demand1.{refusal-changes-nothing}

@@ -13,7 +13,7 @@ use Rattle.quorum.specs.Sets.{member}
 use Rattle.quorum.specs.Configurations.{valid, holdsWrite}
 use Rattle.layout.specs.Fields.{Copy, Kind, Round}
 use Rattle.layout.specs.Fields.{none as noRound, read as readRound, write as writeRound, change as changeRound}
-use Rattle.layout.specs.View.{State, own, foundByVersion, foundByGeneration, heard}
+use Rattle.layout.specs.View.{State, own, foundByVersion, foundByGeneration, heard, SameContents}
 use Rattle.layout.proofs.Soundness.{RoundFacts, StateSound}
 use Rattle.layout.proofs.Stored.{stored}
 use Rattle.rules.specs.Calls.{lay, commit}
@@ -21,7 +21,6 @@ use Rattle.rules.specs.Rules.{idle, written}
 use Rattle.rules.specs.Figures.{Figures, closing}
 use Rattle.rules.specs.After.{stores}
 use Rattle.rules.specs.Book.{Entry, Noted, none, read, write, change, Book, started, entry, finish, step}
-use Rattle.rules.specs.Alike.{SameContents}
 use Rattle.rules.proofs.Judged.{a-round}
 use Rattle.rules.proofs.Copies.{Kept, Current, heard-current, kept-same, kept-laid, bothPut}
 use Rattle.rules.proofs.Copies.{kept-read-commit, kept-write-commit, kept-change-commit}

@@ -9,7 +9,7 @@ use borrow.Author.Tests.{not-true}
 use Rattle.basics.specs.Bytes.{AreBytes}
 use Rattle.basics.proofs.Tests.{clash}
 use Rattle.layout.specs.Soundness.{sound}
-use Rattle.layout.specs.View.{Table, State, view}
+use Rattle.layout.specs.View.{Table, State, view, SameContents}
 use Rattle.layout.proofs.Soundness.{StateSound, facts-sound}
 use Rattle.rules.specs.Calls.{Call, lay, isLay}
 use Rattle.rules.specs.Passed.{Passable}
@@ -18,7 +18,6 @@ use Rattle.rules.specs.Reply.{replyOf, reply, after}
 use Rattle.rules.specs.Lists.{replies, AllPassable}
 use Rattle.rules.specs.Needs.{needs}
 use Rattle.rules.specs.SoundKept.{NoneUnsound, SoundKept}
-use Rattle.rules.specs.Alike.{SameContents}
 use Rattle.rules.proofs.Chains.{Decides, first-tells}
 use Rattle.rules.proofs.Judged.{judged, asked-first, unsound-number}
 use Rattle.rules.proofs.Demand1.{refusal-changes-nothing}

@@ -15,7 +15,7 @@ use Rattle.quorum.specs.Configurations.{configSize}
 use Rattle.layout.specs.Layout.{tableLength}
 use Rattle.layout.specs.Fields.{Copy, Kind, none, read, write, change}
 use Rattle.layout.specs.Soundness.{sound}
-use Rattle.layout.specs.View.{Table, State, view, heard}
+use Rattle.layout.specs.View.{Table, State, view, heard, SameContents}
 use Rattle.layout.specs.Updates.{setOff, noTarget, putCopies}
 use Rattle.basics.proofs.Parts.{read-zeros}
 use Rattle.layout.proofs.Fields.{off-only, polled-only, puts-only, round-only, target-length}
@@ -32,7 +32,6 @@ use Rattle.rules.specs.Book.{Book, step}
 use Rattle.rules.specs.Demand2.{Spent, Written}
 use Rattle.rules.specs.Needs.{needs, Allowed}
 use Rattle.rules.specs.Steps.{Step}
-use Rattle.rules.specs.Alike.{SameContents}
 use Rattle.rules.specs.declared.Reply.{Reply}
 use Rattle.rules.proofs.Quorums.{is-spent, is-written, heard-exactly, of-every, of-none}
 use Rattle.rules.proofs.Judged.{allowed}

@@ -13,7 +13,7 @@ use Rattle.quorum.specs.Configurations.{holdsRead, holdsWrite}
 use Rattle.quorum.proofs.Promise.{promise}
 use Rattle.layout.specs.Fields.{Kind, none, read, write, change, Round}
 use Rattle.layout.specs.Rounds.{withPolled, withPuts, opened}
-use Rattle.layout.specs.View.{State, own, heard}
+use Rattle.layout.specs.View.{State, own, heard, SameContents}
 use Rattle.layout.specs.Updates.{noTarget}
 use Rattle.layout.proofs.Soundness.{StateSound}
 use Rattle.layout.proofs.Held.{withOff, withRound}
@@ -24,7 +24,6 @@ use Rattle.rules.specs.Figures.{figuresOf, closing, reachOf, onBus}
 use Rattle.rules.specs.After.{stores}
 use Rattle.rules.specs.Demand2.{Found}
 use Rattle.rules.specs.Steps.{Joined, Removed, SameCopies, SameOrder, Fresh, Laid, Opened, Polled, Put, Linked, Closing, Committed, Reached}
-use Rattle.rules.specs.Alike.{SameContents}
 use Rattle.rules.specs.declared.Reply.{Reply}
 use Rattle.rules.proofs.Demand1.{Shows}
 use Rattle.rules.proofs.Quorums.{version-found, generation-found, heard-exactly}

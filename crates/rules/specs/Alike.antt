@@ -5,21 +5,14 @@ use mathlib.Core.Bool.{true}
 use mathlib.Core.List.{List}
 use Prim.Native.Nat.{ℕ, _<_}
 use Rattle.basics.specs.Bytes.{AreBytes}
-use Rattle.layout.specs.View.{Table, State, view}
+use Rattle.layout.specs.View.{Table, State, SameContents, view}
 use Rattle.rules.specs.Calls.{Call}
 use Rattle.rules.specs.Passed.{Passable}
 use Rattle.rules.specs.Reply.{replyOf, after}
 use Rattle.rules.specs.Lists.{replies, afterAll, AllPassable}
 
--- the same head, and the same copies of the items and stations that there are
-pub record SameContents (v w : State) : Type 0 where
-  pub n : v .n ≡ w .n
-  pub m : v .m ≡ w .m
-  pub off : v .off ≡ w .off
-  pub round : v .round ≡ w .round
-  pub copies : (i s : ℕ) → i < w .m → s < w .n → v .copies i s ≡ w .copies i s
-
--- and both are sound or neither, and the same sizes fit: states that are equal but for copies of items and stations that there are not
+-- both are sound or neither, the same sizes fit, and they have the same contents: states that are equal but for copies of items and stations
+-- that there are not
 pub record Alike (v w : State) : Type 0 where
   pub isSound : v .isSound ≡ w .isSound
   pub fits : (n m : ℕ) → v .fits n m ≡ w .fits n m
