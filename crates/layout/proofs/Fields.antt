@@ -15,11 +15,16 @@ use Rattle.layout.specs.Layout.{headSize, stationsAt, itemsAt, offAt, ki
 use Rattle.layout.specs.Layout.{targetAt}
 use Rattle.quorum.specs.Configurations.{configSize}
 use Rattle.layout.specs.Layout.{copySize, copyVersionAt, copyValueAt, copyGenerationAt, copyConfigAt, address, tableLength}
-use Rattle.layout.specs.Fields.{Copy, kindOf, stations, items, offSet, roundOf, copyFrom, copyOf}
-use Rattle.layout.specs.Rounds.{withPolled, withPuts, opened}
+use Rattle.layout.specs.Fields.{Copy, Kind, kindOf, Round, stations, items, offSet, roundOf, copyFrom, copyOf}
+use Rattle.layout.specs.Rounds.{withPolled, withPuts}
 use Rattle.layout.specs.Updates.{setOff, setPolled, setPuts, setRound, putData, putConfig, copyBytes}
 use Rattle.basics.proofs.Parts.{part-left, part-right, part-length, length-over, part-inside, part-whole, part-before, part-after}
 use Rattle.basics.proofs.Parts.{length-bytes, read-bytes, bytes-append, bytes-of, bytes-zeros, bytes-over}
+
+-- a round opened anew
+abbrev pub opened : Kind → ℕ → ℕ → List ℕ → Round
+opened kind item value target =
+    record { kind = kind; item = item; polled = 0; dataPuts = 0; configPuts = 0; value = value; target = target }
 
 -- ---- u is t but for some bytes
 -- the k bytes from b on lie outside the bytes from a up to e

@@ -10,9 +10,9 @@ use Rattle.quorum.specs.Configurations.{configSize}
 use Rattle.layout.specs.Layout.{headSize, kindAt, spareAt, tableLength}
 use Rattle.layout.specs.Fields.{Copy, kindOf, Round, stations, items, offSet, roundOf, copyOf}
 use Rattle.layout.specs.View.{State, view}
-use Rattle.layout.specs.Rounds.{withPolled, withPuts, opened}
+use Rattle.layout.specs.Rounds.{withPolled, withPuts}
 use Rattle.layout.specs.Updates.{setOff, setPolled, setPuts, setRound}
-use Rattle.layout.proofs.Fields.{only-wider, number-kept, HeadOnly, head-stations, head-items, head-copies}
+use Rattle.layout.proofs.Fields.{opened, only-wider, number-kept, HeadOnly, head-stations, head-items, head-copies}
 use Rattle.layout.proofs.Fields.{off-only, polled-only, puts-only, round-only}
 use Rattle.layout.proofs.Fields.{off-off, off-round, polled-off, polled-round, puts-off, puts-round, round-off, round-spare, round-kind}
 use Rattle.layout.proofs.Fields.{round-round}

@@ -44,7 +44,7 @@ pub product-le : (n m : ℕ) → n ≤ 16 → m ≤ 32 → n * m ≤ 512
 product-le n m a b = mul-le-mul a b
 
 -- the largest table is that of 16 stations and 32 items, and no lay needs more
-largest-is : tableLength 16 32 ≡ largest
+pub largest-is : tableLength 16 32 ≡ largest
 unfolding tableLength
 largest-is = refl
 

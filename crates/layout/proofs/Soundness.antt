@@ -14,6 +14,7 @@ use Rattle.quorum.specs.Configurations.{configSize}
 use Rattle.basics.proofs.Bytes.{number-none, number-suc}
 use Rattle.basics.proofs.Tests.{_also_, and-left, and-right, and-both, all-true, true-all, all-below, below-all}
 use Rattle.layout.proofs.Fields.{table-head}
+use Rattle.layout.proofs.Sizes.{sized}
 use Rattle.layout.specs.Layout.{headSize, itemAt, polledAt, dataPutsAt, configPutsAt, valueAt, targetAt}
 use Rattle.layout.specs.Fields.{Kind, none, read, write, change, stations, items, roundOf}
 use Rattle.layout.specs.Soundness.{roundSound, copiesValid, soundness, sound}
@@ -88,18 +89,19 @@ module _ (t : List ℕ) where
   unfolding sound soundness copiesValid view
   sound-facts e =
       let a = all-true (soundness t) e in
-      let b = a .1 .1 .1 .1 .1 .1 .1 in
+      let sizes = sized (stations t) (items t) .0 (a .1 .0) in
+      let b = a .1 .1 .1 .1 in
       let c = b .1 .1 .1 .1 in
       record {
         size = eqb-true _ _ (a .0);
-        kind = leb-true _ _ (a .1 .1 .1 .1 .1 .0);
+        kind = leb-true _ _ (a .1 .1 .0);
         spare = eqb-true _ _ (c .1 .1 .1 .0);
         state = record {
-          positive = leb-true _ _ (a .1 .0);
-          small = leb-true _ _ (a .1 .1 .0);
-          someItem = leb-true _ _ (a .1 .1 .1 .0);
-          fewItems = leb-true _ _ (a .1 .1 .1 .1 .0);
-          item = ltb-true _ _ (a .1 .1 .1 .1 .1 .1 .0);
+          positive = sizes .0;
+          small = sizes .1;
+          someItem = sizes .2;
+          fewItems = sizes .3;
+          item = ltb-true _ _ (a .1 .1 .1 .0);
           off = b .0;
           polled = b .1 .0;
           dataPuts = b .1 .1 .0;
@@ -115,8 +117,8 @@ module _ (t : List ℕ) where
   unfolding sound soundness copiesValid view
   facts-sound f =
       let v = f .state in
-      true-all (soundness t) (eq-eqb _ _ (f .size) also le-leb _ _ (v .positive) also le-leb _ _ (v .small) also le-leb _ _ (v .someItem)
-      also le-leb _ _ (v .fewItems) also le-leb _ _ (f .kind) also lt-ltb _ _ (v .item) also v .off also v .polled also v .dataPuts also v .configPuts
+      let sizes = sized (stations t) (items t) .1 (v .positive, v .small, v .someItem, v .fewItems) in
+      true-all (soundness t) (eq-eqb _ _ (f .size) also sizes also le-leb _ _ (f .kind) also lt-ltb _ _ (v .item) also v .off also v .polled also v .dataPuts also v .configPuts
       also ap not (v .dataOn) also ap not (v .configOn) also facts-round (roundOf t .kind) (v .round) also eq-eqb _ _ (f .spare)
       also below-all _ (items t) (λ i h. below-all _ (stations t) (λ s k. v .configs i s h k)) also tt)
 

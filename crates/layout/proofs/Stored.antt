@@ -16,10 +16,9 @@ use Rattle.quorum.specs.Configurations.{configSize}
 use Rattle.layout.specs.Layout.{copySize, copyVersionAt, copyValueAt, copyGenerationAt, address, tableLength}
 use Rattle.layout.specs.Fields.{Copy, none, Round, stations, roundOf, copyFrom}
 use Rattle.layout.specs.View.{State}
-use Rattle.layout.specs.Rounds.{opened}
 use Rattle.layout.specs.Updates.{noTarget, putData, copyBytes, repeated, laid, putCopy, putCopies}
 use Rattle.basics.proofs.Parts.{number-lt, bytes-append, bytes-zeros, bytes-part}
-use Rattle.layout.proofs.Fields.{outside, outside-before, outside-after, Only, only-none, only-trans, only-wider, number-kept, copy-kept, round-kept}
+use Rattle.layout.proofs.Fields.{opened, outside, outside-before, outside-after, Only, only-none, only-trans, only-wider, number-kept, copy-kept, round-kept}
 use Rattle.layout.proofs.Fields.{address-head, address-suc, address-fits, address-order, address-later}
 use Rattle.layout.proofs.Fields.{data-only, data-copy, config-only, config-copy, data-bytes, config-bytes}
 use Rattle.layout.proofs.Fields.{table-head, target-length, copy-left, copy-right, copy-length, copy-bytes, copy-read}

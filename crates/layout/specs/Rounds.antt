@@ -1,11 +1,10 @@
 -- The open round after each call on it (document 01, "The calls").
 use mathlib.Core.Bool.{Bool, cond}
-use mathlib.Core.List.{List}
 use Prim.Native.Nat.{ℕ}
 use Rattle.quorum.specs.Sets.{join, remove}
-use Rattle.layout.specs.Fields.{Kind, Round}
+use Rattle.layout.specs.Fields.{Round}
 
--- ---- with other sets, or opened anew
+-- ---- with other sets
 abbrev pub withPolled : Round → ℕ → Round
 withPolled r polled =
     record {
@@ -29,10 +28,6 @@ withPuts r dataPuts configPuts =
       value = r .value;
       target = r .target;
     }
-
-abbrev pub opened : Kind → ℕ → ℕ → List ℕ → Round
-opened kind item value target =
-    record { kind = kind; item = item; polled = 0; dataPuts = 0; configPuts = 0; value = value; target = target }
 
 -- ---- "Poll (station): joins the polled set."
 abbrev pub withPoll : Round → ℕ → Round

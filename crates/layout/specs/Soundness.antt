@@ -8,7 +8,7 @@ use Rattle.basics.specs.Tests.{all, allBelow}
 use Rattle.basics.specs.Bytes.{number}
 use Rattle.quorum.specs.Sets.{shares, within}
 use Rattle.quorum.specs.Configurations.{valid, configSize}
-use Rattle.layout.specs.Layout.{headSize, tableLength, kindAt, itemAt, spareAt, valueAt, targetAt}
+use Rattle.layout.specs.Layout.{headSize, tableLength, listed, kindAt, itemAt, spareAt, valueAt, targetAt}
 use Rattle.layout.specs.Fields.{Kind, none, read, write, change, kindByte, stations, items, offSet, roundOf, copyOf}
 
 -- the bytes from a place on, as many as the width says, are zero
@@ -32,10 +32,7 @@ soundness t =
     -- its length fits
     eqb (length t) (tableLength (stations t) (items t))
     -- n, m, round and item are in range
-    ∷ leb 1 (stations t)
-    ∷ leb (stations t) 16
-    ∷ leb 1 (items t)
-    ∷ leb (items t) 32
+    ∷ listed (stations t) (items t)
     ∷ leb (number t kindAt 1) (kindByte change)
     ∷ ltb (roundOf t .item) (items t)
     -- all head sets name stations below n

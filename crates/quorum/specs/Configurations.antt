@@ -5,7 +5,7 @@ use Prim.Native.Nat.{ℕ, zero, suc, _+_, _*_}
 use lib.ListN.{length}
 use lib.Dec.{leb, eqb}
 use Rattle.basics.specs.Tests.{all, allBelow, anyBelow}
-use Rattle.basics.specs.Bytes.{part, number}
+use Rattle.basics.specs.Bytes.{number}
 use Rattle.quorum.specs.Sets.{used, holds, shares, within}
 use Rattle.quorum.specs.declared.Place.{Place}
 use Rattle.quorum.specs.declared.Place.the-variants.{At, Nowhere}
@@ -63,14 +63,6 @@ validity n c =
 
 unfoldable pub valid : ℕ → List ℕ → Bool
 valid n c = all (validity n c)
-
--- the bytes at a place of a list are a valid configuration
-abbrev pub validAt : ℕ → List ℕ → ℕ → Bool
-validAt n bytes at = valid n (part bytes at configSize)
-
--- so are the bytes at that place, a stride further on, and so on: as many times as the count says
-unfoldable pub validTo : ℕ → List ℕ → ℕ → ℕ → ℕ → Bool
-validTo n bytes at stride count = allBelow (λ k. validAt n bytes (at + stride * k)) count
 
 -- the set holds every station of the used set at a place of the side
 unfoldable pub holdsPlace : (ℕ → ℕ) → ℕ → ℕ → Bool

@@ -1,6 +1,6 @@
--- What the crate promises of its definitions of sets and configurations. The crates above rely on this record and on the contracts of
--- `sets` alone for both; `validTo` is vocabulary that they use as it is defined. The crates `sets` and `validity`, the code of this layer,
--- open the definitions.
+-- What the crate promises of its definitions of sets and configurations: "the table layer relies on their promises alone". The crates above
+-- rely on this record and on the contracts of `sets` and `validity`. These two, the code of this layer, open the definitions, and so do the
+-- examples that are computed (`cases`).
 use mathlib.Core.Path.{_≡_}
 use mathlib.Core.Bool.{Bool, true, false, not, _&&_, _||_}
 use mathlib.Core.List.{List}

@@ -14,7 +14,8 @@ use Rattle.layout.specs.Fields.{Copy, Kind, none, read, write, change, Round}
 use Rattle.layout.specs.View.{State}
 use Rattle.layout.specs.Updates.{noTarget}
 use Rattle.basics.proofs.Parts.{read-zeros}
-use Rattle.layout.specs.Rounds.{withPolled, withPuts, opened, withPoll, withPut, withLink}
+use Rattle.layout.specs.Rounds.{withPolled, withPuts, withPoll, withPut, withLink}
+use Rattle.layout.proofs.Fields.{opened}
 use Rattle.layout.proofs.Soundness.{RoundFacts, StateSound}
 use Rattle.layout.proofs.Held.{withOff, withRound, withCopies}
 use Rattle.rules.specs.Calls.{Call, lay, openRead, openWrite, openChange, poll, put, commit, abandon, link, reach, isData, isOff}

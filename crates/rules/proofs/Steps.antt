@@ -12,9 +12,10 @@ use Rattle.quorum.specs.Sets.{member, join, remove, full}
 use Rattle.quorum.specs.Configurations.{holdsRead, holdsWrite}
 use Rattle.quorum.proofs.Promise.{promise}
 use Rattle.layout.specs.Fields.{Kind, none, read, write, change, Round}
-use Rattle.layout.specs.Rounds.{withPolled, withPuts, opened}
+use Rattle.layout.specs.Rounds.{withPolled, withPuts}
 use Rattle.layout.specs.View.{State, own, heard, SameContents}
 use Rattle.layout.specs.Updates.{noTarget}
+use Rattle.layout.proofs.Fields.{opened}
 use Rattle.layout.proofs.Soundness.{StateSound}
 use Rattle.layout.proofs.Held.{withOff, withRound}
 use Rattle.layout.proofs.Newer.{by-generation, some-newest, hears-same}

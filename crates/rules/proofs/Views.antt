@@ -11,10 +11,10 @@ use Rattle.quorum.specs.Sets.{within}
 use Rattle.quorum.proofs.Promise.{promise}
 use Rattle.quorum.specs.Configurations.{configSize}
 use Rattle.layout.specs.Fields.{Kind, none, read, write, change, kindOf}
-use Rattle.layout.specs.Rounds.{opened}
 use Rattle.layout.specs.View.{State, view, own, heard, foundByVersion, foundByGeneration}
 use Rattle.layout.specs.Updates.{setRound, noTarget}
 use Rattle.basics.proofs.Parts.{bytes-zeros}
+use Rattle.layout.proofs.Fields.{opened}
 use Rattle.layout.proofs.Soundness.{StateSound}
 use Rattle.layout.proofs.Held.{withRound, Holds, holds-round}
 use Rattle.layout.proofs.Stored.{Small, copy-small, value-small}

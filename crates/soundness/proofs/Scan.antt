@@ -11,10 +11,12 @@ use borrow.Author.Tests.{eq-eqb, eqb-true, leb-true}
 use Rattle.basics.specs.Tests.{all, allBelow}
 use Rattle.basics.specs.Bytes.{number}
 use Rattle.quorum.specs.Sets.{shares, within, unite}
-use Rattle.quorum.specs.Configurations.{valid, validAt, validTo}
+use Rattle.quorum.specs.Configurations.{valid}
+use Rattle.validity.specs.Pairs.{validAt, validTo}
 use Rattle.basics.proofs.Tests.{same-test, and-left, and-right, and-both, all-true, all-same}
 use Rattle.basics.proofs.Bytes.{number-none, number-suc, number-one}
 use Rattle.quorum.proofs.Promise.{promise}
+use Rattle.layout.proofs.Sizes.{sized, product-le}
 use Rattle.layout.specs.Layout.{kindAt, itemAt, spareAt, targetAt, copyConfigAt, copySize, address, tableLength}
 use Rattle.layout.specs.Fields.{Kind, none, read, write, change, kindOf, stations, items, offSet, roundOf, copyFrom}
 use Rattle.layout.specs.Soundness.{isZero, roundSound, copiesValid, soundness, sound}
@@ -74,15 +76,11 @@ unfolding allBelow
 all-pairs p n zero = rw (zero-mul n)
 all-pairs p n (suc m) = rw (all-pairs p n m, suc-mul m n, all-add p (m * n) n)
 
--- tests joined one after the other, as the code joins them, are those of the list
-abbrev pub joined : Bool → List Bool → Bool
-joined b [] = b
-joined b (a ∷ l) = joined (b && a) l
-
-pub joined-all : (b : Bool) (l : List Bool) → joined b l ≡ all (b ∷ l)
+-- the length and the four tests of n and m, joined one after the other as the code joins them
+pub size-joined : (b p q r s : Bool) → (b && p && q && r && s) ≡ all (b ∷ (p && q && r && s) ∷ [])
 unfolding all
-joined-all b [] = sym (and-true b)
-joined-all b (a ∷ l) = joined-all (b && a) l ∙ and-assoc b a (all l)
+size-joined true p q r s = sym (and-true (p && q && r && s))
+size-joined false p q r s = refl
 
 all-split : (k : ℕ) (l : List Bool) → all l ≡ (all (take k l) && all (drop k l))
 unfolding all
@@ -151,7 +149,7 @@ regrouped true true true true true true true true true false true true = refl
 regrouped true true true true true true true true true true true false = refl
 regrouped true true true true true true true true true true true true = refl
 
-head-parts : (t : List ℕ) → all (drop 5 (soundness t)) ≡ (headSound t && (roundBlank t (kind t) && (copiesValid t && targetSound t (kind t))))
+head-parts : (t : List ℕ) → all (drop 2 (soundness t)) ≡ (headSound t && (roundBlank t (kind t) && (copiesValid t && targetSound t (kind t))))
 unfolding soundness all headSound
 head-parts t =
     let n = stations t in
@@ -167,7 +165,7 @@ head-parts t =
 pub sound-parts : (t : List ℕ)
     → sound t ≡ (sizeSound t && (headSound t && (roundBlank t (kind t) && (copiesValid t && targetSound t (kind t)))))
 unfolding sound sizeSound
-sound-parts t = all-split 5 (soundness t) ∙ ap (λ b. sizeSound t && b) (head-parts t)
+sound-parts t = all-split 2 (soundness t) ∙ ap (λ b. sizeSound t && b) (head-parts t)
 
 pub record Size (t : List ℕ) : Type 0 where
   pub long : length t ≡ tableLength (stations t) (items t)
@@ -179,13 +177,14 @@ pub record Size (t : List ℕ) : Type 0 where
 pub size-facts : (t : List ℕ) → sizeSound t ≡ true → Size t
 unfolding sizeSound soundness
 size-facts t e =
-    let h = all-true (take 5 (soundness t)) e in
+    let h = all-true (take 2 (soundness t)) e in
+    let sizes = sized (stations t) (items t) .0 (h .1 .0) in
     record {
       long = eqb-true _ _ (h .0);
-      some-stations = leb-true _ _ (h .1 .0);
-      few-stations = leb-true _ _ (h .1 .1 .0);
-      some-copies = mul-le-mul (leb-true _ _ (h .1 .0)) (leb-true _ _ (h .1 .1 .1 .0));
-      few-copies = mul-le-mul (leb-true _ _ (h .1 .1 .0)) (leb-true _ _ (h .1 .1 .1 .1 .0));
+      some-stations = sizes .0;
+      few-stations = sizes .1;
+      some-copies = mul-le-mul (sizes .0) (sizes .2);
+      few-copies = product-le _ _ (sizes .1) (sizes .3);
     }
 
 -- before n and m are known to be in range: the product of two bytes

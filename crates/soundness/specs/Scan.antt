@@ -8,14 +8,15 @@ use lib.Dec.{ltb, leb, eqb}
 use Rattle.basics.specs.Tests.{all}
 use Rattle.basics.specs.Bytes.{number}
 use Rattle.quorum.specs.Sets.{shares, within, unite}
-use Rattle.quorum.specs.Configurations.{valid, validTo}
+use Rattle.quorum.specs.Configurations.{valid}
+use Rattle.validity.specs.Pairs.{validTo}
 use Rattle.layout.specs.Layout.{kindAt, spareAt, valueAt, targetAt, copySize}
 use Rattle.layout.specs.Fields.{Kind, none, read, write, change, kindByte, stations, items, offSet, roundOf}
 use Rattle.layout.specs.Soundness.{isZero, roundSound, soundness}
 
 -- the length, n and m
 unfoldable pub sizeSound : List ℕ → Bool
-sizeSound t = all (take 5 (soundness t))
+sizeSound t = all (take 2 (soundness t))
 
 -- the rest of the head, but for what the round's kind asks of it; its four sets are tested as one
 unfoldable pub headSound : List ℕ → Bool

@@ -12,8 +12,8 @@ use lib.Dec.{eqb, ltb}
 use borrow.Author.Tests.{eqb-true, ltb-true, ltb-false}
 use Rattle.basics.specs.Tests.{allBelow}
 use Rattle.basics.specs.Bytes.{part}
-use Rattle.quorum.specs.Configurations.{valid, validAt, validTo}
-use Rattle.validity.specs.Pairs.{sameAgain, sameLane, sameBlock}
+use Rattle.quorum.specs.Configurations.{valid}
+use Rattle.validity.specs.Pairs.{validAt, validTo, sameAgain, sameLane, sameBlock}
 use Rattle.basics.proofs.Parts.{part-length}
 use Rattle.basics.proofs.Tests.{clash, by-cases, and-both, all-below, below-all, either}
 

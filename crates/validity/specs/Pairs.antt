@@ -7,8 +7,9 @@ use lib.ListN.{getD}
 use lib.Dec.{eqb}
 use lib.Bits.{bitOr}
 use Rattle.basics.specs.Tests.{allBelow}
+use Rattle.basics.specs.Bytes.{part}
 use Rattle.quorum.specs.Sets.{shares, within, full}
-use Rattle.quorum.specs.Configurations.{configSize, setAt, validTo}
+use Rattle.quorum.specs.Configurations.{configSize, setAt, valid}
 
 -- A set as the pairs are tested, by the set of the next place. An unused place stands for all stations, which share one with every
 -- used set; but one right before a used place stays empty and shares none, so that a gap is found. (That each side has a used place is
@@ -51,6 +52,14 @@ fourWithin n c place =
     within n (setAt c (place + 3)) && within n (setAt c (place + 2)) && within n (setAt c (place + 1)) && within n (setAt c place)
 
 -- ---- configurations that stand a stride apart; the bytes named here lie within the list
+-- the bytes at a place of a list are a valid configuration
+abbrev pub validAt : ℕ → List ℕ → ℕ → Bool
+validAt n bytes at = valid n (part bytes at configSize)
+
+-- so are the bytes at that place, a stride further on, and so on: as many times as the count says
+unfoldable pub validTo : ℕ → List ℕ → ℕ → ℕ → ℕ → Bool
+validTo n bytes at stride count = allBelow (λ k. validAt n bytes (at + stride * k)) count
+
 -- the 32 bytes a stride further on are those at the place
 unfoldable pub sameAgain : List ℕ → ℕ → ℕ → Bool
 sameAgain bytes at stride = allBelow (λ i. eqb (getD bytes (at + stride + i) 0) (getD bytes (at + i) 0)) configSize

@@ -1,10 +1,10 @@
 use mathlib.Core.Path.{sym}
 use Rattle.basics.proofs.Tests.{fails}
 use Prim.Native.Nat.{_*_, _≤_}
-use lib.ListN.{length, take, drop}
-use lib.Dec.{eqb}
+use lib.ListN.{length}
+use lib.Dec.{eqb, leb}
 use Rattle.layout.specs.Fields.{stations, items}
-use Rattle.soundness.proofs.Scan.{joined-all, size-facts, bytes-product}
+use Rattle.soundness.proofs.Scan.{size-joined, size-facts, bytes-product}
 use native.Mathlib.Omega.{arith}
 use Rattle.layout.specs.Layout.{tableLength}
 use Rattle.layout.specs.Soundness.{soundness}
@@ -40,8 +40,11 @@ add-result c = omega (arith, product c)
 
 returns-2 : tie.Need-returns-2
 unfolding sizeSound soundness tableLength
-returns-2 c = let t = c .before .before .before .before .args .t .now in
-    cc (joined-all (eqb (length t) (tableLength (stations t) (items t))) (take 4 (drop 1 (soundness t))))
+returns-2 c =
+    let t = c .before .before .before .before .args .t .now in
+    let n = stations t in
+    let m = items t in
+    cc (size-joined (eqb (length t) (tableLength n m)) (leb 1 n) (leb n 16) (leb 1 m) (leb m 32))
 
 pub size-ok-spec : {M : Type 1} → statement M
 size-ok-spec =
