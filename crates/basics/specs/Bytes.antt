@@ -3,7 +3,7 @@ use mathlib.Core.List.{List, [], _∷_, _++_}
 use Prim.Native.Nat.{ℕ, zero, suc, _+_, _*_, _/_, _%_, _<_}
 use lib.ListN.{length, take, drop}
 
--- the bytes from a place on, as many as the width says
+-- the bytes from a place on, as many as the width says; fewer where the list ends before
 abbrev pub part : List ℕ → ℕ → ℕ → List ℕ
 part t at width = take width (drop at t)
 
@@ -15,7 +15,7 @@ littleEndian (byte ∷ rest) = byte + 256 * littleEndian rest
 abbrev pub number : List ℕ → ℕ → ℕ → ℕ
 number t at width = littleEndian (part t at width)
 
--- the bytes of a number, as many as the width says
+-- the lowest bytes of a number, as many as the width says
 unfoldable pub bytesOf : ℕ → ℕ → List ℕ
 bytesOf zero x = []
 bytesOf (suc width) x = x % 256 ∷ bytesOf width (x / 256)

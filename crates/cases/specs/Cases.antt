@@ -6,6 +6,7 @@ use mathlib.Core.Option.{Option, none, some}
 use Prim.Native.Nat.{ℕ}
 use lib.ListN.{replicate}
 use Rattle.rules.specs.Calls.{Call, lay, openRead, openWrite, openChange, poll, put, commit, abandon, link}
+use Rattle.rules.specs.Calls.{dataSort, configSort, offState, onState}
 use Rattle.rules.specs.Lists.{replies}
 use Rattle.rules.specs.declared.Reply.{Reply}
 
@@ -45,10 +46,17 @@ round opening calls = opening ∷ poll 0 ∷ poll 1 ∷ calls
 
 -- a data put and a configuration put
 abbrev pub dataPut : ℕ → Call
-dataPut s = put s 1
+dataPut s = put s dataSort
 
 abbrev pub configPut : ℕ → Call
-configPut s = put s 2
+configPut s = put s configSort
+
+-- a station that drops, and one that returns
+abbrev pub drops : ℕ → Call
+drops s = link s offState
+
+abbrev pub returns : ℕ → Call
+returns s = link s onState
 
 -- a finished write and a finished change that several rows begin with
 abbrev pub writes : List Call
@@ -77,9 +85,9 @@ table =
     -- "Then polling 1, 2 reads 510, version 1."
     ∷ row (writes ++ (openRead 0 ∷ poll 1 ∷ poll 2 ∷ commit ∷ [])) 0 510 1 0
     -- "Puts at 0, 1, station 1 drops: commit 11;"
-    ∷ row (round (openWrite 0 510) (dataPut 0 ∷ dataPut 1 ∷ link 1 0 ∷ commit ∷ [])) 11 0 0 0
+    ∷ row (round (openWrite 0 510) (dataPut 0 ∷ dataPut 1 ∷ drops 1 ∷ commit ∷ [])) 11 0 0 0
     -- "abandoned, reads that poll 0, 2 give the old value."
-    ∷ row (round (openWrite 0 510) (dataPut 0 ∷ dataPut 1 ∷ link 1 0 ∷ commit ∷ abandon ∷ openRead 0 ∷ poll 0 ∷ poll 2 ∷ commit ∷ [])) 0 500 0 0
+    ∷ row (round (openWrite 0 510) (dataPut 0 ∷ dataPut 1 ∷ drops 1 ∷ commit ∷ abandon ∷ openRead 0 ∷ poll 0 ∷ poll 2 ∷ commit ∷ [])) 0 500 0 0
     -- "Change to 0004 on both sides, data put 2, configuration puts 0, 1: generation 1."
     ∷ row changes 0 500 0 1
     -- "Then polled {2} is unheard; {0, 2} is heard."
@@ -94,7 +102,7 @@ table =
     ∷ row (lay 3 1 500 gap ∷ []) 3 0 0 0
     -- ---- "What growers' programs get wrong"
     -- "Counting a returned station's copy as new because it was heard last": station 2 was off during the write
-    ∷ row (link 2 0 ∷ writes ++ (link 2 1 ∷ openRead 0 ∷ poll 0 ∷ poll 2 ∷ commit ∷ [])) 0 510 1 0
+    ∷ row (drops 2 ∷ writes ++ (returns 2 ∷ openRead 0 ∷ poll 0 ∷ poll 2 ∷ commit ∷ [])) 0 510 1 0
     -- "Letting an abandoned write show in a copy": a read polls the very stations that had its puts
     ∷ row (round (openWrite 0 510) (dataPut 0 ∷ dataPut 1 ∷ abandon ∷ round (openRead 0) (commit ∷ []))) 0 500 0 0
     -- "Testing the configuration puts against the target's write sets": in a change from 0004, which every station has, back to the

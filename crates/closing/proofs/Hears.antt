@@ -7,21 +7,21 @@ use Rattle.layout.specs.Fields.{none, stations, roundOf}
 use Rattle.layout.specs.Soundness.{sound}
 use Rattle.layout.specs.View.{view, heard}
 use Rattle.rounds.specs.Heard.{Says}
-use Rattle.rounds.specs.declared.heard.Heard.{Heard}
-use Rattle.rounds.specs.declared.heard.Heard.the-variants.{Copies, Not}
+use Rattle.rounds.specs.declared.heard.Hearing.{Hearing}
+use Rattle.rounds.specs.declared.heard.Hearing.the-variants.{Copies, Unheard}
 use Rattle.rounds.proofs.Hearing.{says-heard, says-unheard}
 use Rattle.closing.specs.Closing.{HeardAt}
 
 -- its answer is that of the table's own round
-abbrev pub OwnSays : List ℕ → Heard → Type 0
+abbrev pub OwnSays : List ℕ → Hearing → Type 0
 OwnSays t answer = Says t (stations t) (roundOf t .item) (roundOf t .polled) answer
 
-pub own-says : (t : List ℕ) (answer : Heard) {n i p : ℕ} → n ≡ stations t → i ≡ roundOf t .item → p ≡ roundOf t .polled
+pub own-says : (t : List ℕ) (answer : Hearing) {n i p : ℕ} → n ≡ stations t → i ≡ roundOf t .item → p ≡ roundOf t .polled
     → Says t n i p answer → OwnSays t answer
 own-says t answer a b c h = rw (a, b, c) at h
 
-module _ (t : List ℕ) {answer : Heard} (h : OwnSays t answer) where
-  pub not-heard : answer ≡ Not → heard (view t) ≡ false
+module _ (t : List ℕ) {answer : Hearing} (h : OwnSays t answer) where
+  pub not-heard : answer ≡ Unheard → heard (view t) ≡ false
   not-heard f = says-unheard t (rw f at h)
 
   pub heard-at : {x y : ℕ} → sound t ≡ true → (view t .round .kind ≡ none → ⊥) → answer ≡ Copies x y → HeardAt t x y

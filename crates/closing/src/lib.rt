@@ -16,7 +16,7 @@ use numbers::SHORT;
 use numbers::SPENT;
 use numbers::UNHEARD;
 use numbers::plain;
-use rounds::heard::Heard;
+use rounds::heard::Hearing;
 use rounds::heard::hear;
 use rounds::round::Round;
 use rules::Reply;
@@ -36,7 +36,7 @@ pub fn commit_reply(t: &[u8], round: Round) -> Reply
     if k == NO_ROUND {
         return plain(IDLE);
     }
-    let Heard::Copies(b, g) = hear(t, stations(t), round.item, round.polled) else {
+    let Hearing::Copies(b, g) = hear(t, stations(t), round.item, round.polled) else {
         return plain(UNHEARD);
     };
     if k == READ {

@@ -41,7 +41,8 @@ callsOf arguments =
     ∷ some (reach (number arguments 0 1))
     ∷ []
 
--- the call of a code and argument bytes; a code that has none, or too few bytes, stand for no call. Bytes behind the arguments are not read.
+-- The call of a code and argument bytes; a code that has none, or too few bytes, stand for no call. Bytes behind the arguments are not read. (A
+-- line has just the bytes of its frame: `isFrame`. Other callers may hand over more.)
 unfoldable pub callAt : ℕ → List ℕ → Option Call
 callAt code arguments = cond (ltb (length arguments) (frameLength code - 1)) none (getD (callsOf arguments) code none)
 

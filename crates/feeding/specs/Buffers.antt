@@ -1,4 +1,5 @@
--- What a session holds in buffers, and what feeding a piece of input does to it.
+-- What a session holds in buffers, and what feeding a piece of input does to it. `Fed` has how far the piece is taken (`at`), and the lengths in use
+-- of the line so far (`len`), of the table (`used`) and of the output (`out`).
 use mathlib.Core.Path.{_≡_}
 use mathlib.Core.List.{List}
 use Prim.Native.Nat.{ℕ, _+_, _≤_}
@@ -38,9 +39,9 @@ pub record AnswersLine (line table out : List ℕ) (s : Fed) (table' out' : List
 
 -- From s to r a stretch of the piece was taken: what is in hand is what the definition has after that stretch, and what the
 -- definition prints there stands in the output, from `s .out` on; the rest of the output is as it was. Every buffer keeps its length.
--- Free are the bytes of the table's buffer behind the table, where an earlier, longer table may have left its own, and the bytes of the
--- line's buffer behind the line. How far it goes is in the contract of `feed`: to the end of the piece, or until the output has no
--- room for another reply line.
+-- Free are the bytes of the table's buffer behind the table, where an earlier, longer table may have left its own (each line leaves them as they
+-- were, but the table's length changes from line to line), and the bytes of the line's buffer behind the line. How far it goes is in the contract of
+-- `feed`: to the end of the piece, or until the output has no room for another reply line.
 pub record Takes (piece table line out : List ℕ) (s : Fed) (table' line' out' : List ℕ) (r : Fed) : Type 0 where
   pub forward : s .at ≤ r .at
   pub state : inHand table' (r .used) line' (r .len) ≡ afterPiece (inHand table (s .used) line (s .len)) (stretch piece (s .at) (r .at))

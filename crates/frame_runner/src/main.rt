@@ -3,7 +3,7 @@ ghost use mathlib.Core.Path.{_≡_};
 ghost use Prim.Native.Nat.{_≤_};
 ghost use lib.ListN.{length, take};
 ghost use Rattle.runs.specs.Pieces.{printedLast};
-ghost use Rattle.reading.specs.Between.{Empty, Ready};
+ghost use Rattle.reading.specs.Between.{RightSizes, Ready};
 use feeding::Fed;
 use feeding::finish;
 use layout::LARGEST;
@@ -31,7 +31,7 @@ fn answer_last(table: &mut [u8], line: &[u8], out: &mut [u8], s: AfterRead) -> u
 
 // Answers the whole input, and at its end a last line without a line end; a failed read or write leaves no such line.
 fn answer_input(input: &mut [u8], table: &mut [u8], line: &mut [u8], out: &mut [u8])
-    requires { ⌜ Empty (now table) (now line) (now out) ⌝ }
+    requires { ⌜ RightSizes (now table) (now line) (now out) ⌝ }
 {
     let s = answer_reads(input, table, line, out);
     let end = answer_last(table, line, out, s);

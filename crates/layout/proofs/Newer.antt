@@ -27,7 +27,7 @@ module _ (key : ℕ → ℕ) (set : ℕ) where
   later k m less =
       record {
         station = omega arith;
-        isPolled = m;
+        inSet = m;
         greatest = below-suc (λ (s : ℕ). member set s ≡ true → key s ≤ key k) k (λ s h p. let q = less s h p in omega arith) (λ p. omega arith);
         lowest = less;
       }
@@ -37,7 +37,7 @@ module _ (key : ℕ → ℕ) (set : ℕ) where
   kept k b h last =
       record {
         station = let q = h .station in omega arith;
-        isPolled = h .isPolled;
+        inSet = h .inSet;
         greatest = below-suc (λ (s : ℕ). member set s ≡ true → key s ≤ key b) k (h .greatest) last;
         lowest = h .lowest;
       }
@@ -64,7 +64,7 @@ module _ (key : ℕ → ℕ) (set : ℕ) where
     not-lower : (a b : ℕ) → IsNewest key set n a → IsNewest key set n b → b ≤ a
     not-lower a b p q =
         either (ltb a b)
-        (λ e. let l = q .lowest a (ltb-true a b e) (p .isPolled) in let g = p .greatest b (q .station) (q .isPolled) in absurd (omega arith))
+        (λ e. let l = q .lowest a (ltb-true a b e) (p .inSet) in let g = p .greatest b (q .station) (q .inSet) in absurd (omega arith))
         (λ e. ltb-false a b e)
 
     pub same-newest : (a b : ℕ) → IsNewest key set n a → IsNewest key set n b → a ≡ b
@@ -74,7 +74,7 @@ module _ (key : ℕ → ℕ) (set : ℕ) where
     newest-is b h = go (newest key set n) (is-newest n)
       where
         go : (o : Option ℕ) → Gives key set n o → o ≡ some b
-        go none f = clash (h .isPolled) (f b (h .station))
+        go none f = clash (h .inSet) (f b (h .station))
         go (some a) f = ap some (same-newest a b f h)
 
     -- with a station of the set there is a newest
@@ -98,7 +98,7 @@ newest-exactly =
       where
         go : (o : Option ℕ) → Gives key set n o → o ≡ none
         go none f = refl
-        go (some b) f = clash (f .isPolled) (h b (f .station))
+        go (some b) f = clash (f .inSet) (h b (f .station))
 
 -- ---- the copies that it gives
 module _ (copies : ℕ → Copy) (set n : ℕ) where
@@ -139,7 +139,7 @@ module _ (copies : ℕ → Copy) (set n : ℕ) where
     where
       go : (o : Option ℕ) → Gives (λ s. copies s .generation) set n o → holdsRead (copyOr copies o .config) set ≡ true → Finds
       go none f h = clash h (promise .short-read [] set (λ z. absurd (omega arith)))
-      go (some s) f h = finds s (f .station) (f .isPolled)
+      go (some s) f h = finds s (f .station) (f .inSet)
 
 -- ---- only the stations below n are looked at
 module _ (key key′ : ℕ → ℕ) (set : ℕ) where

@@ -118,8 +118,9 @@ module _ (t : List ℕ) where
   facts-sound f =
       let v = f .state in
       let sizes = sized (stations t) (items t) .1 (v .positive, v .small, v .someItem, v .fewItems) in
-      true-all (soundness t) (eq-eqb _ _ (f .size) also sizes also le-leb _ _ (f .kind) also lt-ltb _ _ (v .item) also v .off also v .polled also v .dataPuts also v .configPuts
-      also ap not (v .dataOn) also ap not (v .configOn) also facts-round (roundOf t .kind) (v .round) also eq-eqb _ _ (f .spare)
+      true-all (soundness t) (eq-eqb _ _ (f .size) also sizes also le-leb _ _ (f .kind) also lt-ltb _ _ (v .item)
+      also v .off also v .polled also v .dataPuts also v .configPuts also ap not (v .dataOn) also ap not (v .configOn)
+      also facts-round (roundOf t .kind) (v .round) also eq-eqb _ _ (f .spare)
       also below-all _ (items t) (λ i h. below-all _ (stations t) (λ s k. v .configs i s h k)) also tt)
 
 -- the same by the view's test, of the table and of its state

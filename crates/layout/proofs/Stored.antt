@@ -18,10 +18,10 @@ use Rattle.layout.specs.Fields.{Copy, none, Round, stations, roundOf, co
 use Rattle.layout.specs.View.{State}
 use Rattle.layout.specs.Updates.{noTarget, putData, copyBytes, repeated, laid, putCopy, putCopies}
 use Rattle.basics.proofs.Parts.{number-lt, bytes-append, bytes-zeros, bytes-part}
-use Rattle.layout.proofs.Fields.{opened, outside, outside-before, outside-after, Only, only-none, only-trans, only-wider, number-kept, copy-kept, round-kept}
+use Rattle.layout.proofs.Fields.{outside, outside-before, outside-after, Only, only-none, only-trans, only-wider, number-kept, copy-kept, round-kept}
 use Rattle.layout.proofs.Fields.{address-head, address-suc, address-fits, address-order, address-later}
 use Rattle.layout.proofs.Fields.{data-only, data-copy, config-only, config-copy, data-bytes, config-bytes}
-use Rattle.layout.proofs.Fields.{table-head, target-length, copy-left, copy-right, copy-length, copy-bytes, copy-read}
+use Rattle.layout.proofs.Fields.{opened, table-head, target-length, copy-left, copy-right, copy-length, copy-bytes, copy-read}
 use Rattle.layout.proofs.Held.{Holds, withCopies}
 
 -- a copy with what is stored at it: version and value by a data put, generation and configuration by a configuration put

@@ -5,7 +5,7 @@ use lib.Dec.{leb}
 
 -- "Head, 56 bytes: 0 n; 1 m; 2–3 set of stations off the bus; 4 round (0 none, 1 read, 2 write, 3 change); 5 item;
 -- 6–7 polled set; 8–9 data puts; 10–11 configuration puts; 12–15 zero; 16–23 value to write; 24–55 target configuration."
--- The head ends here.
+-- Its size, which is where its last field ends, and then its fields in this order.
 abbrev pub headSize : ℕ
 headSize = 56
 
@@ -42,7 +42,8 @@ valueAt = 16
 abbrev pub targetAt : ℕ
 targetAt = 24
 
--- the copies start here: "The copy of item i at station s starts at 56 + .."
+-- The copies start here, where the head's fields end: "The copy of item i at station s starts at 56 + .." Two names, since a field of the head
+-- and the place of a copy are not the same thing.
 abbrev pub copiesAt : ℕ
 copiesAt = 56
 
@@ -66,10 +67,11 @@ copyConfigAt = 24
 unfoldable pub address : ℕ → ℕ → ℕ → ℕ
 address n i s = copiesAt + copySize * (i * n + s)
 
--- "The length is 56 × (1 + n × m), at most 28,728": that of 16 stations and 32 items.
+-- "The length is 56 × (1 + n × m)": the head, and behind it n × m copies.
 unfoldable pub tableLength : ℕ → ℕ → ℕ
 tableLength n m = copiesAt + copySize * (n * m)
 
+-- "at most 28,728": the length for 16 stations and 32 items (TableFacts.antt)
 abbrev pub largest : ℕ
 largest = 28728
 

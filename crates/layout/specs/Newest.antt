@@ -21,12 +21,12 @@ unfoldable pub newest : (ℕ → ℕ) → ℕ → ℕ → Option ℕ
 newest key set zero = none
 newest key set (suc k) = cond (member set k) (newer key k (newest key set k)) (newest key set k)
 
--- the same by quantifiers: of the stations of the set, as those polled, b has the greatest key, and is the lowest that has it
-pub record IsNewest (key : ℕ → ℕ) (polled n b : ℕ) : Type 0 where
+-- the same by quantifiers: of the stations below n that are in the set, b has the greatest key, and is the lowest that has it
+pub record IsNewest (key : ℕ → ℕ) (set n b : ℕ) : Type 0 where
   pub station : b < n
-  pub isPolled : member polled b ≡ true
-  pub greatest : (s : ℕ) → s < n → member polled s ≡ true → key s ≤ key b
-  pub lowest : (s : ℕ) → s < b → member polled s ≡ true → key s < key b
+  pub inSet : member set b ≡ true
+  pub greatest : (s : ℕ) → s < n → member set s ≡ true → key s ≤ key b
+  pub lowest : (s : ℕ) → s < b → member set s ≡ true → key s < key b
 
 -- the two are one, and there is none exactly if the set has no station below the bound
 pub record NewestExactly : Type 0 where

@@ -11,7 +11,7 @@ use Rattle.quorum.specs.Configurations.{valid, configSize}
 use Rattle.layout.specs.Layout.{headSize, tableLength, listed, kindAt, itemAt, spareAt, valueAt, targetAt}
 use Rattle.layout.specs.Fields.{Kind, none, read, write, change, kindByte, stations, items, offSet, roundOf, copyOf}
 
--- the bytes from a place on, as many as the width says, are zero
+-- the bytes from a place on, as many as the width says, are zero: so is the number in them, and no other bytes give zero
 abbrev pub isZero : List ℕ → ℕ → ℕ → Bool
 isZero t at width = eqb (number t at width) 0
 

@@ -56,7 +56,7 @@ abbrev pub putCopy : List ℕ → ℕ → Bool → Bool → Copy → List ℕ
 putCopy t at data? config? new =
     let u = cond data? (putData t at (new .version) (new .value)) t in cond config? (putConfig u at (new .generation) (new .config)) u
 
--- and so to the copies of the round's item at the stations below a bound, of n
+-- and so to the copies of the round's item at the stations 0 to bound − 1 of the n
 unfoldable pub putCopies : List ℕ → ℕ → Round → Copy → ℕ → List ℕ
 putCopies t n r new zero = t
 putCopies t n r new (suc s) =

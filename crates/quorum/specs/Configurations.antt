@@ -26,7 +26,7 @@ readSet c k = setAt c k
 unfoldable pub writeSet : List ℕ → ℕ → ℕ
 writeSet c k = setAt c (8 + k)
 
--- "A zero set is an unused place; used places come first on each side."
+-- "A zero set is an unused place; used places come first on each side": no used place behind an unused one
 unfoldable pub usedFirst : (ℕ → ℕ) → Bool
 usedFirst side = allBelow (λ k. used (side k) || not (used (side (suc k)))) 7
 

@@ -34,7 +34,7 @@ join set i = cond (ltb i 16) (bitOr set (2 ^ i)) set
 unfoldable pub unite : ℕ → ℕ → ℕ
 unite a b = bitOr a b
 
--- the stations of a that are not in b
+-- the stations of a that are not in b: their bits taken out (`member-minus` of Promise.antt)
 unfoldable pub minus : ℕ → ℕ → ℕ
 minus a b = a - bitAnd a b
 

@@ -1,4 +1,7 @@
--- What the runner has in hand between two reads.
+-- What the runner has in hand between two reads. No contract of `read` and `write` says which bytes they moved, nor when they fail. So this fixes how
+-- table and line are carried from piece to piece and from read to read, while nothing fails; what the program reads and prints is tested.
+-- `AfterRead` has the lengths in use of the table (`used`) and of the line so far (`len`), how many bytes the last read gave (`read`), and whether all
+-- that was read was answered (`whole`).
 use mathlib.Core.Path.{_≡_}
 use mathlib.Core.Bool.{true, false}
 use mathlib.Core.List.{List, _++_}
@@ -19,9 +22,9 @@ begin s = record { at = 0; len = s .len; used = s .used; out = 0 }
 abbrev pub Ready : List ℕ → List ℕ → List ℕ → AfterRead → Type 0
 Ready table line out s = Fits table line out (begin s) × (replyLineSize ≤ length out)
 
--- the same at the start, with no table and no line
-abbrev pub Empty : List ℕ → List ℕ → List ℕ → Type 0
-Empty table line out = (length table ≡ largest) × (length line ≡ enough) × (replyLineSize ≤ length out)
+-- the sizes of the buffers, which at the start hold no table and no line
+abbrev pub RightSizes : List ℕ → List ℕ → List ℕ → Type 0
+RightSizes table line out = (length table ≡ largest) × (length line ≡ enough) × (replyLineSize ≤ length out)
 
 -- From s to r a piece was answered to its end, and what is in hand is what the definition has after it; or a read or a write failed,
 -- and no line is in hand: document 01 leaves free what becomes of it, and it may have been cut in the middle of a frame.
@@ -29,8 +32,8 @@ pub record AnswersPiece (piece table line : List ℕ) (s : AfterRead) (table' li
   pub to-its-end : r .whole ≡ true → inHand table' (r .used) line' (r .len) ≡ afterPiece (inHand table (s .used) line (s .len)) piece
   pub or-dropped : r .whole ≡ false → r .len ≡ 0
 
--- What is in hand is what the definition has, from the start, after the bytes of earlier reads and those that the last read left in the
--- input buffer. (No contract of `read` says which bytes these are.)
+-- What is in hand is what the definition has, from the start, after some bytes, those of earlier reads, and after those that the last read left in
+-- the input buffer.
 pub record AfterInput (input table line : List ℕ) (s : AfterRead) : Type 0 where
   pub earlier : List ℕ
   pub state : inHand table (s .used) line (s .len) ≡ afterPiece start (earlier ++ take (s .read) input)

@@ -3,7 +3,7 @@ ghost use mathlib.Core.Path.{_≡_};
 ghost use mathlib.Core.Bool.{true};
 ghost use Prim.Native.Nat.{_<_};
 ghost use lib.ListN.{length, take};
-ghost use Rattle.reading.specs.Between.{Empty, Ready, AnswersPiece, Stopped};
+ghost use Rattle.reading.specs.Between.{RightSizes, Ready, AnswersPiece, Stopped};
 use feeding::Fed;
 use feeding::feed;
 use libc::STDIN_FILENO;
@@ -114,7 +114,7 @@ pub fn answer_reads(
     line: &mut [u8],
     out: &mut [u8],
 ) -> AfterRead
-    requires { ⌜ Empty (now table) (now line) (now out) ⌝ }
+    requires { ⌜ RightSizes (now table) (now line) (now out) ⌝ }
     ensures { λ r. ⌜ Stopped (now (input .exit)) (now (table .exit)) (now (line .exit)) r ⌝ }
     ensures { λ r. ⌜ Ready (now (table .exit)) (now (line .exit)) (now (out .exit)) r ⌝ }
 {

@@ -20,7 +20,7 @@ use Rattle.layout.proofs.Soundness.{sound-facts}
 use Rattle.layout.proofs.Newer.{Gives, is-newest, heard-finds}
 use Rattle.table.proofs.Search.{copy-fits, found-below, newest-below}
 use Rattle.rounds.specs.Heard.{FoundAt, Says}
-use Rattle.rounds.specs.declared.heard.Heard.the-variants.{Copies, Not}
+use Rattle.rounds.specs.declared.heard.Hearing.the-variants.{Copies, Unheard}
 
 -- ---- one of the two searches, by any key: it found a station, or nobody
 module _ (n set : ℕ) (key : ℕ → ℕ) {o : Station} (e : asOption o ≡ newest key set n) where
@@ -38,7 +38,7 @@ module _ (n set : ℕ) (key : ℕ → ℕ) {o : Station} (e : asOption o ≡ new
         by-cases (λ (b : Bool). hears (copiesOf t n item) set n ≡ b → b ≡ false) (hears (copiesOf t n item) set n)
         (λ _ h. let f = heard-finds (copiesOf t n item) set n h in
         let nobody : Gives key set n none = rw (← e, p) at (is-newest key set n) in
-        clash (f .newestVersion .isPolled) (nobody (f .b) (f .newestVersion .station))) (λ _ _. refl) refl
+        clash (f .newestVersion .inSet) (nobody (f .b) (f .newestVersion .station))) (λ _ _. refl) refl
 
 -- ---- g is the station found by generation, and its copy starts at d
 module _ (t : List ℕ) (n item set : ℕ) {by-generation : Station} {g d : ℕ} (w : asOption by-generation ≡ newest (generationsOf t n item) set n)
@@ -74,6 +74,6 @@ module _ (t : List ℕ) where
   unfolding view
   says-heard b g h = (h .0, h .1 .version, h .1 .generation)
 
-  pub says-unheard : Says t (stations t) (roundOf t .item) (roundOf t .polled) Not → heard (view t) ≡ false
+  pub says-unheard : Says t (stations t) (roundOf t .item) (roundOf t .polled) Unheard → heard (view t) ≡ false
   unfolding view
   says-unheard h = h

@@ -9,12 +9,12 @@ use table::newest::Station;
 use table::newest::search;
 
 // Of a heard round, where the newest copies start: by version, and by generation.
-pub enum Heard {
+pub enum Hearing {
     Copies(usize, usize),
-    Not,
+    Unheard,
 }
 
-pub fn hear(t: &[u8], n: usize, item: usize, polled: u16) -> Heard
+pub fn hear(t: &[u8], n: usize, item: usize, polled: u16) -> Hearing
     requires { ⌜ InTable (now t) n item ⌝ }
     ensures { λ r. ⌜ Says (now (t .entry)) n item polled r ⌝ }
 {
@@ -22,16 +22,16 @@ pub fn hear(t: &[u8], n: usize, item: usize, polled: u16) -> Heard
     let by_version = found.by_version;
     let by_generation = found.by_generation;
     let Station::At(b) = by_version else {
-        return Heard::Not;
+        return Hearing::Unheard;
     };
     let Station::At(g) = by_generation else {
-        return Heard::Not;
+        return Hearing::Unheard;
     };
     let at = address(n, item, g);
     if sets::holds_read_set(config_at(t, at), polled) {
-        return Heard::Copies(address(n, item, b), at);
+        return Hearing::Copies(address(n, item, b), at);
     }
-    Heard::Not
+    Hearing::Unheard
 }
 
 // The same, where only whether it is heard matters.

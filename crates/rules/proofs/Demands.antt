@@ -19,7 +19,7 @@ pub use Rattle.rules.proofs.Judged.{numbered}
 pub use Rattle.rules.proofs.Demand2.{demand2}
 pub use Rattle.rules.proofs.Demand3.{demand3}
 pub use Rattle.rules.proofs.Kept.{sound-kept}
-pub use Rattle.rules.proofs.Twice.{twice}
+pub use Rattle.rules.proofs.Twice.{twice, lay-alone}
 pub use Rattle.rules.proofs.Alike.{alike-tables}
 
 pub demand1 : Demand1

@@ -11,7 +11,7 @@ pub mod Laws
 pub mod Demand2
 pub mod Demand3
 pub mod Kept
-pub mod Twice
 pub mod Alike
+pub mod Twice
 pub mod Room
 pub mod Demands

@@ -12,20 +12,27 @@ use Rattle.basics.specs.Bytes.{AreBytes}
 use Rattle.quorum.specs.Sets.{member, join}
 use Rattle.basics.proofs.Tests.{or-left, or-right, or-cases}
 use Rattle.quorum.proofs.Promise.{promise}
-use Rattle.layout.specs.View.{view}
+use Rattle.layout.specs.Fields.{Kind, none, read, write, change}
+use Rattle.layout.specs.View.{Table, State, view}
 use Rattle.layout.specs.Updates.{setPolled, setPuts}
 use Rattle.layout.proofs.Again.{polled-again, puts-again, own-polled, own-puts}
 use Rattle.layout.proofs.Fields.{polled-round, puts-round}
-use Rattle.layout.proofs.Soundness.{sound-head}
+use Rattle.layout.proofs.Soundness.{is-sound, sound-head}
 use Rattle.rules.specs.Calls.{Call, lay, poll, put, isData, dataSort, configSort}
-use Rattle.rules.specs.Rules.{tests, refusals, numberOf}
+use Rattle.rules.specs.Passed.{Passable}
+use Rattle.rules.specs.Rules.{tests, refusals, numberOf, spentAtPut}
 use Rattle.rules.specs.Figures.{figuresOf}
 use Rattle.rules.specs.After.{done}
 use Rattle.rules.specs.Reply.{replyOf, reply, after}
 use Rattle.rules.specs.Needs.{needs}
+use Rattle.rules.specs.Alike.{Alike}
 use Rattle.rules.specs.Twice.{Twice}
+use Rattle.rules.specs.LayAlone.{LayAlone}
 use Rattle.rules.proofs.Views.{two-bytes}
-use Rattle.rules.proofs.Laws.{by-number, done-after, done-allowed, done-law}
+use Rattle.rules.proofs.States.{next}
+use Rattle.rules.proofs.Laws.{by-number, done-after, done-allowed, done-law, next-view, length-kept}
+use Rattle.rules.proofs.Kept.{after-sound}
+use Rattle.rules.proofs.Alike.{same-reply}
 
 -- ---- a station that is in the set joins it again
 join-again : (a s : ℕ) → s < 16 → join (join a s) s ≡ join a s
@@ -134,6 +141,41 @@ module _ (t : List ℕ) (b : AreBytes t) where
       joined l (inl e) = rw (e, join-member d s l (md e))
       joined l (inr e) = rw (e, join-member c s l (mc e))
 
+-- ---- the reply to the second
+-- The table after a call looks like the state after it; so where that state is called sound and of the same sizes, the call gets its reply again.
+module _ (t : Table) (b : AreBytes t) (c : Call) (p : Passable c) (e : reply t c .number ≡ 0) where
+  again : next (view t) c .isSound ≡ true → ((n m : ℕ) → view t .fits n m ≡ next (view t) c .fits n m)
+      → reply (after t c) c ≡ replyOf (next (view t) c) c
+  unfolding view
+  again h f =
+      let alike : Alike (view (after t c)) (next (view t) c) = record {
+        isSound = after-sound t c b p e ∙ sym h;
+        fits = λ n m. rw (length-kept t c) (f n m);
+        contents = next-view t c e b p;
+      } in
+      same-reply (view (after t c)) (next (view t) c) alike (λ x. is-sound (after t c) x .item) c
+
+poll-replies : (t : Table) (s : ℕ) → AreBytes t → reply t (poll s) .number ≡ 0 → reply (after t (poll s)) (poll s) ≡ reply t (poll s)
+unfolding view needs replyOf numberOf refusals tests figuresOf
+poll-replies t s b e =
+    let a = done-allowed t (poll s) e in
+    let f = done-law t (poll s) e .isSound .small in
+    let l = a .1 .0 in
+    again t b (poll s) tt e (a .0) (λ n m. refl) ∙ rw (join-again (view t .round .polled) s (omega arith))
+
+-- a put leaves what is found, so that it spends what it spent before
+spends-again : (v : State) (s sort : ℕ) (k : Kind) → spentAtPut (next v (put s sort)) k sort ≡ spentAtPut v k sort
+spends-again v s sort none = refl
+spends-again v s sort read = refl
+spends-again v s sort write = refl
+spends-again v s sort change = refl
+
+put-replies : (t : Table) (s sort : ℕ) → AreBytes t → reply t (put s sort) .number ≡ 0
+    → reply (after t (put s sort)) (put s sort) ≡ reply t (put s sort)
+unfolding view needs replyOf numberOf refusals tests figuresOf
+put-replies t s sort b e =
+    again t b (put s sort) tt e (done-allowed t (put s sort) e .0) (λ n m. refl) ∙ rw (spends-again (view t) s sort (view t .round .kind))
+
 -- ---- lay
 module _ (t u : List ℕ) (n m value : ℕ) (config : List ℕ) (e : length t ≡ length u) where
   lay-reply : reply t (lay n m value config) ≡ reply u (lay n m value config)
@@ -148,9 +190,12 @@ pub twice : Twice
 twice =
     record {
       poll-twice = poll-twice;
+      poll-replies = poll-replies;
       put-twice = put-twice;
+      put-replies = put-replies;
       polled-already = λ t s b. polled-already t b s;
       put-already = λ t s sort b. put-already t b s sort;
-      lay-reply = lay-reply;
-      lay-after = lay-after;
     }
+
+pub lay-alone : LayAlone
+lay-alone = record { lay-reply = lay-reply; lay-after = lay-after }

@@ -1,6 +1,7 @@
--- Demand 1, of the definitions, for every call on any list of numbers: a refusal changes no byte and has zero figures; calls other
--- than poll, commit and reach have zero figures always; the number is one of document 01's; on bytes the figures have 64 bits;
--- the table keeps its length, and stays bytes. That there is one reply and one table is said by `reply` and `after` being
+-- Demand 1: every call, on any bytes and numbers, ends, touches only what is lent, and refuses by document 01's number; a refusal changes no
+-- byte and has zero figures. Here, of the definitions and for every call on any list of numbers, what a refusal leaves; that calls other than
+-- poll, commit and reach have zero figures always; that the number is one of document 01's (which one is in Needs.antt); that on bytes the figures
+-- have 64 bits; that the table keeps its length, and stays bytes. That there is one reply and one table is said by `reply` and `after` being
 -- functions; that the code ends, equals them and touches nothing but what it is lent is in its contracts.
 use mathlib.Core.Path.{_≡_}
 use Prim.Native.Nat.{ℕ, _≤_}

@@ -1,6 +1,7 @@
 -- Demand 2: on a sound table a commit finishes exactly if the needed quorums were heard and written and no counter that it must raise is
 -- spent; otherwise it gets the one number that says which of these fails. The quorums are source 000's, sections 3, 5.2 and
--- 5.4, by quantifiers over stations and places.
+-- 5.4, by quantifiers over stations and places. Of document 01's "Versions that fail", `unheard` and `short` rule out "unheard or short told before
+-- looking at the sets", and `finished` "every call refused" (that of the other calls is in Needs.antt).
 use mathlib.Core.Path.{_≡_}
 use mathlib.Core.Bool.{true, false}
 use mathlib.Core.Logic.{_↔_, _⊎_}

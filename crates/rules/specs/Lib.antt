@@ -11,6 +11,7 @@ pub mod Demand2
 pub mod Needs
 pub mod Steps
 pub mod Twice
+pub mod LayAlone
 pub mod Alike
 pub mod Demand3
 pub mod SoundKept

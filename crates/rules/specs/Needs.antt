@@ -1,7 +1,8 @@
 -- What each call needs, by facts about the state, and the number that it gets where one of them fails (document 01, the table of numbers).
--- Stations, quorums and counters are by quantifiers, as in Demand2.antt; of the store's own tests only soundness and a lay's length are named, and
--- SoundFacts.antt of the layout has the facts of the one, `fits` of its View.antt the other. So a call is refused only for one of its reasons, which of
--- document 01's "Versions that fail" rules out "every call refused", and with the lowest number that applies.
+-- What a round has found, its quorums and its counters are by quantifiers, as in Demand2.antt. Of the store's own tests two are named: soundness, whose
+-- facts are in SoundFacts.antt of the layout, and that a lay's length fits (`fits` of its View.antt).
+-- A call is refused only where a fact of its list fails. That rules out "every call refused", one of document 01's "Versions that fail".
+-- It is refused with the number of the first that fails: "The lowest number that applies is given".
 use mathlib.Core.Path.{_≡_}
 use mathlib.Core.Bool.{true, false}
 use mathlib.Core.List.{List, [], _∷_}

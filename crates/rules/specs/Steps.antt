@@ -1,7 +1,8 @@
 -- What each call that is done does, and its figures: on the state before and the state after, by members of sets, by stations and by
 -- quorums. It is proved of the bytes (After.antt) and the figures (Figures.antt) for every table of bytes and every call that can be
 -- passed, and lets a reader check them against document 01 without reading either. The figures of a call that has none
--- here are zero (Demand1.antt).
+-- here are zero (Demand1.antt). "A byte that no rule changes stays as it was": the table after a call that is done is sound (SoundKept.antt) and has
+-- the length that it had (Demand1.antt), and the state of a sound table has every byte of it (TableFacts.antt of the layout).
 use mathlib.Core.Path.{_≡_}
 use mathlib.Core.Bool.{true, false, not, _&&_, _||_}
 use mathlib.Core.List.{List}
@@ -16,6 +17,7 @@ use Rattle.layout.specs.Fields.{Kind, none, read, write, change, Round}
 use Rattle.layout.specs.View.{Table, State, view, own}
 use Rattle.layout.specs.Updates.{noTarget}
 use Rattle.rules.specs.Calls.{Call, lay, openRead, openWrite, openChange, poll, put, commit, abandon, link, reach}
+use Rattle.rules.specs.Calls.{dataSort, configSort, offState, onState}
 use Rattle.rules.specs.Passed.{Passable}
 use Rattle.rules.specs.Reply.{reply, after}
 use Rattle.rules.specs.Demand2.{QuorumIn, Found, Heard}
@@ -62,7 +64,7 @@ pub record Laid (w : State) (n m value : ℕ) (config : List ℕ) : Type 0 where
   pub copies : (i s : ℕ) → i < m → s < n
       → (w .copies i s .version ≡ 0) × (w .copies i s .value ≡ value) × (w .copies i s .generation ≡ 0) × (w .copies i s .config ≡ config)
 
--- ---- the openings, and abandon: "the round closes, copies unchanged"
+-- ---- the openings, and abandon, which leaves no round: "the round closes, copies unchanged"
 pub record Opened (v w : State) (k : Kind) (i x : ℕ) (l : List ℕ) : Type 0 where
   pub copies : SameCopies v w
   pub off : w .off ≡ v .off
@@ -86,17 +88,17 @@ pub record Put (v w : State) (s sort : ℕ) : Type 0 where
   pub order : SameOrder v w
   pub off : w .off ≡ v .off
   pub polled : w .round .polled ≡ v .round .polled
-  pub dataPut : sort ≡ 1 → Joined (v .round .dataPuts) s (w .round .dataPuts) × (w .round .configPuts ≡ v .round .configPuts)
-  pub configPut : sort ≡ 2 → (w .round .dataPuts ≡ v .round .dataPuts) × Joined (v .round .configPuts) s (w .round .configPuts)
+  pub dataPut : sort ≡ dataSort → Joined (v .round .dataPuts) s (w .round .dataPuts) × (w .round .configPuts ≡ v .round .configPuts)
+  pub configPut : sort ≡ configSort → (w .round .dataPuts ≡ v .round .dataPuts) × Joined (v .round .configPuts) s (w .round .configPuts)
 
 -- ---- link: "going off takes the station out of both put sets; it stays in the polled set. Its copies are kept."
 pub record Linked (v w : State) (s state : ℕ) : Type 0 where
   pub copies : SameCopies v w
   pub order : SameOrder v w
   pub polled : w .round .polled ≡ v .round .polled
-  pub goesOff : state ≡ 0
+  pub goesOff : state ≡ offState
       → Joined (v .off) s (w .off) × Removed (v .round .dataPuts) s (w .round .dataPuts) × Removed (v .round .configPuts) s (w .round .configPuts)
-  pub comesOn : state ≡ 1
+  pub comesOn : state ≡ onState
       → Removed (v .off) s (w .off) × (w .round .dataPuts ≡ v .round .dataPuts) × (w .round .configPuts ≡ v .round .configPuts)
 
 -- ---- commit: "Commit's figures are value, version, generation after the round": those of the copies found, "a write stores its value
@@ -129,7 +131,7 @@ pub record Committed (v w : State) (r : Reply) : Type 0 where
 -- ---- reach: "take the configuration of the highest generation among all the item's copies. The figure is 1 if the stations on the bus
 -- hold one of its read sets, 3 if also a write set, else 0."
 pub record Reached (v : State) (i : ℕ) (r : Reply) : Type 0 where
-  -- all n stations, those on the bus, and the station whose copy has the highest generation
+  -- all n stations and those on the bus, as the sets with these members, and the station whose copy has the highest generation
   pub all : ℕ
   pub isAll : (s : ℕ) → member all s ≡ ltb s (v .n)
   pub on : ℕ

@@ -15,7 +15,7 @@ use Rattle.rules.specs.After.{done}
 use Rattle.rules.specs.Reply.{reply, after}
 use Rattle.rules.specs.declared.Reply.{Reply}
 use Rattle.rules.proofs.Laws.{done-after}
-use Rattle.rules.proofs.Demands.{twice}
+use Rattle.rules.proofs.Demands.{lay-alone}
 use Rattle.dispatch.specs.Dispatch.{frameLength, callsOf, callAt, replyOr, afterOr}
 use Rattle.dispatch.proofs.Entries.{Each, each-at}
 use Rattle.dispatch.proofs.Codes.{enough}
@@ -74,7 +74,7 @@ module _ (old : List ℕ) (whole : length old ≡ largest) (used lend : ℕ) (fi
       let long : length (take lend old) ≡ length (lent (take used old) c) =
       length-take-le lend old (omega arith) ∙ d ∙ sym (ap length zeros ∙ length-replicate (layLength n m) 0)
       in
-      let same = twice .lay-reply (take lend old) (lent (take used old) c) n m value config long in (
+      let same = lay-alone .lay-reply (take lend old) (lent (take used old) c) n m value config long in (
         same,
         λ z. done-after (take lend old) c z ∙ sym (done-after (lent (take used old) c) c (rw same at z)),
       )
