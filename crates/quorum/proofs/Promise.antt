@@ -10,7 +10,7 @@ use lib.Pow.{pow-pos, pow-mono}
 use borrow.Author.Tests.{ltb-true, lt-ltb, ne-eqb}
 use Rattle.basics.specs.Tests.{anyBelow, Some}
 use Rattle.quorum.specs.Sets.{member, used, within, unite, remove, full}
-use Rattle.quorum.specs.Configurations.{setAt, readSet, writeSet, valid, holdsPlace, holdsRead, holdsWrite, firstPlace, firstRead, firstWrite}
+use Rattle.quorum.specs.Configurations.{setAt, readSet, writeSet, valid, holdsPlace, holdsRead, holdsWrite, firstPlace, firstRead, firstWrite, configSize}
 use Rattle.quorum.specs.Promise.{Promise, _⊆_, LiesIn, FirstIn, Side}
 use Rattle.quorum.specs.declared.Place.the-variants.{At}
 use Rattle.basics.proofs.Tests.{clash, fails, same-test, any-below, below-any}
@@ -64,7 +64,7 @@ short : (side : ℕ → ℕ) (set : ℕ) → ((k : ℕ) → side k ≡ 0) → an
 unfolding used
 short side set h = fails _ (λ e. let s = held side set .0 e in clash (s .2 .0) (rw (h (s .0))))
 
-no-set : (c : List ℕ) (place : ℕ) → (length c ≡ 32 → ⊥) → setAt c place ≡ 0
+no-set : (c : List ℕ) (place : ℕ) → (length c ≡ configSize → ⊥) → setAt c place ≡ 0
 unfolding setAt
 no-set c place h = rw (ne-eqb _ _ h)
 

@@ -12,7 +12,7 @@ use lib.Dec.{eqb}
 use borrow.Author.Tests.{leb-true, le-leb, eqb-true, eqb-false, eq-eqb, not-true}
 use Rattle.basics.specs.Tests.{anyBelow}
 use Rattle.quorum.specs.Sets.{used}
-use Rattle.quorum.specs.Configurations.{readSet, writeSet, usedFirst, someUsed, allWithin, sharesAll, allShare, validity, valid}
+use Rattle.quorum.specs.Configurations.{readSet, writeSet, usedFirst, someUsed, allWithin, sharesAll, allShare, validity, valid, configSize}
 use Rattle.quorum.specs.Configurations.{holdsPlace, firstPlace, orElse}
 use Rattle.quorum.specs.Promise.{LiesIn, Side, Valid}
 use Rattle.quorum.specs.declared.Place.the-variants.{At, Nowhere}
@@ -72,7 +72,7 @@ facts-valid n c v =
       (
         le-leb n 16 (v .small),
         (
-          eq-eqb (length c) 32 (v .long),
+          eq-eqb (length c) configSize (v .long),
           (
             r .0,
             (

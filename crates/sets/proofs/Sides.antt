@@ -6,14 +6,14 @@ use native.Mathlib.Nat.{zero-add}
 use lib.ListN.{length, getD}
 use borrow.Author.Tests.{eq-eqb}
 use Rattle.basics.specs.Tests.{anyBelow}
-use Rattle.quorum.specs.Configurations.{setAt, readSet, writeSet, holdsPlace, holdsRead, holdsWrite, firstPlace, firstRead, firstWrite}
+use Rattle.quorum.specs.Configurations.{setAt, readSet, writeSet, holdsPlace, holdsRead, holdsWrite, firstPlace, firstRead, firstWrite, configSize}
 use Rattle.sets.specs.Inner.{anyHeld, firstHeld}
 use Rattle.basics.proofs.Bytes.{number-two}
 
 -- ---- a set by its two bytes
-pub set-bytes : (c : List ℕ) (place : ℕ) → length c ≡ 32 → setAt c place ≡ getD c (2 * place) 0 + 256 * getD c (2 * place + 1) 0
+pub set-bytes : (c : List ℕ) (place : ℕ) → length c ≡ configSize → setAt c place ≡ getD c (2 * place) 0 + 256 * getD c (2 * place + 1) 0
 unfolding setAt
-set-bytes c place l = rw (eq-eqb (length c) 32 l, number-two c (2 * place))
+set-bytes c place l = rw (eq-eqb (length c) configSize l, number-two c (2 * place))
 
 -- ---- the side that starts at place 0 is the read side, the one at place 8 the write side
 reads-held : (c : List ℕ) (set k : ℕ) → holdsPlace (setAt c) set (0 + k) ≡ holdsPlace (readSet c) set k

@@ -11,7 +11,7 @@ use lib.Dec.{eqb, ltb}
 use lib.Bits.{bitAnd, bitOr, or-add-and, and-le-r, or-zero-l, and-block}
 use borrow.Author.Tests.{eq-eqb, ne-eqb, eqb-true, eqb-false, ltb-true, ltb-false, lt-ltb, not-true, not-false}
 use Rattle.quorum.specs.Sets.{member, used, holds, shares, within, minus, full}
-use Rattle.quorum.specs.Configurations.{setAt, readSet, writeSet, valid}
+use Rattle.quorum.specs.Configurations.{setAt, readSet, writeSet, valid, configSize}
 use Rattle.validity.specs.Pairs.{filled, filledSide, rowOk, pairsOk, four, FourFit, outsideOf, fourWithin}
 use Rattle.quorum.specs.Promise.{Side, Valid}
 use Rattle.basics.proofs.Tests.{clash, fails, same-test, and-left, and-right, and-both, all-below, below-all, either}
@@ -275,7 +275,7 @@ module _ (n : ℕ) (c : List ℕ) where
       rw z at (promise .member-within n (setAt c (8 + (k - 8))) (v .writes .inRange (k - 8) (omega arith)))))
 
   -- and what passes is valid if its first two sets share a station
-  module _ (p : 1 ≤ n) (l : n ≤ 16) (long : length c ≡ 32) (paired : pairsOk c ≡ true) (in-range : inside ≡ true) where
+  module _ (p : 1 ≤ n) (l : n ≤ 16) (long : length c ≡ configSize) (paired : pairsOk c ≡ true) (in-range : inside ≡ true) where
     abbrev pair : (j k : ℕ) → j < 8 → k < 8 → (i : ℕ) × (member (place (readSet c) j) i ≡ true) × (member (place (writeSet c) k) i ≡ true)
     pair j k h m = promise .shares-member (place (readSet c) j) (place (writeSet c) k) .0 (pairs-all c paired j k h m)
 

@@ -12,7 +12,7 @@ use lib.Dec.{eqb, ltb}
 use borrow.Author.Tests.{eqb-true, ltb-true, ltb-false}
 use Rattle.basics.specs.Tests.{allBelow}
 use Rattle.basics.specs.Bytes.{part}
-use Rattle.quorum.specs.Configurations.{valid}
+use Rattle.quorum.specs.Configurations.{valid, configSize}
 use Rattle.validity.specs.Pairs.{validAt, validTo, sameAgain, sameLane, sameBlock}
 use Rattle.basics.proofs.Parts.{part-length}
 use Rattle.basics.proofs.Tests.{clash, by-cases, and-both, all-below, below-all, either}
@@ -26,23 +26,23 @@ same-part t a b w h g e =
     rw (getD-take w (drop a t) i 0 q, getD-take w (drop b t) i 0 q, getD-drop a t i 0, getD-drop b t i 0) (e i q))
 
 -- a configuration with the bytes of a valid one is valid
-pub again-valid : (n : ℕ) (t : List ℕ) (at stride : ℕ) → at + stride + 32 ≤ length t
+pub again-valid : (n : ℕ) (t : List ℕ) (at stride : ℕ) → at + stride + configSize ≤ length t
     → sameAgain t at stride ≡ true → validAt n t at ≡ true → validAt n t (at + stride) ≡ true
 unfolding sameAgain
 again-valid n t at stride h e v =
-    let g : at + 32 ≤ length t = omega arith in
-    rw (same-part t (at + stride) at 32 h g (λ k l. eqb-true _ _ (all-below _ 32 e k l))) v
+    let g : at + configSize ≤ length t = omega arith in
+    rw (same-part t (at + stride) at configSize h g (λ k l. eqb-true _ _ (all-below _ configSize e k l))) v
 
 -- so are eight, a stride apart, with the bytes of a valid one
-pub block-valid : (n : ℕ) (t : List ℕ) (at stride : ℕ) → at + 32 ≤ length t → ((j : ℕ) → j < 8 → at + stride + stride * j + 32 ≤ length t)
+pub block-valid : (n : ℕ) (t : List ℕ) (at stride : ℕ) → at + configSize ≤ length t → ((j : ℕ) → j < 8 → at + stride + stride * j + configSize ≤ length t)
     → sameBlock t at stride ≡ true → validAt n t at ≡ true → (j : ℕ) → j < 8 → validAt n t (at + stride + stride * j) ≡ true
 unfolding sameBlock sameLane
-block-valid n t at stride h room e v j l = rw (same-part t (at + stride + stride * j) at 32 (room j l) h byte) v
+block-valid n t at stride h room e v j l = rw (same-part t (at + stride + stride * j) at configSize (room j l) h byte) v
   where
-    byte : (k : ℕ) → k < 32 → getD t (at + stride + stride * j + k) 0 ≡ getD t (at + k) 0
+    byte : (k : ℕ) → k < configSize → getD t (at + stride + stride * j + k) 0 ≡ getD t (at + k) 0
     byte k m =
         let q : at + stride + stride * j + k ≡ at + k + stride + stride * j = omega arith in
-        let lane = all-below (λ k. sameLane t (at + k) stride) 32 e k m in
+        let lane = all-below (λ k. sameLane t (at + k) stride) configSize e k m in
         rw q (eqb-true _ _ (all-below (λ j. eqb (getD t (at + k + stride + stride * j) 0) (getD t (at + k) 0)) 8 lane j l))
 
 -- ---- configurations a stride apart
@@ -68,7 +68,7 @@ module _ (n : ℕ) (t : List ℕ) (at stride : ℕ) where
       by-cases (λ (b : Bool). false ≡ b) (validTo n t at stride to) (λ v. clash (all-below _ to v k l) e) (λ _. refl)
 
   -- one more that is the same as the one before it
-  pub next-same : (k : ℕ) → (k ≡ 0 → ⊥) → at + stride * k + 32 ≤ length t
+  pub next-same : (k : ℕ) → (k ≡ 0 → ⊥) → at + stride * k + configSize ≤ length t
       → sameAgain t (at + stride * (k - 1)) stride ≡ true → validTo n t at stride k ≡ true → validTo n t at stride (k + 1) ≡ true
   next-same k ne room e v =
       let f : at + stride * (k - 1) + stride ≡ at + stride * k = stride-next k ne in
@@ -79,7 +79,7 @@ module _ (n : ℕ) (t : List ℕ) (at stride : ℕ) where
   stride-on k j ne = rw (mul-add stride k j) (omega (arith, stride-next k ne))
 
   -- eight more that are the same as the one before them
-  pub eight-more : (k : ℕ) → (k ≡ 0 → ⊥) → ((i : ℕ) → i < k + 8 → at + stride * i + 32 ≤ length t)
+  pub eight-more : (k : ℕ) → (k ≡ 0 → ⊥) → ((i : ℕ) → i < k + 8 → at + stride * i + configSize ≤ length t)
       → sameBlock t (at + stride * (k - 1)) stride ≡ true → validTo n t at stride k ≡ true → validTo n t at stride (k + 8) ≡ true
   unfolding validTo
   eight-more k ne room e v = below-all _ (k + 8) (λ i l.
@@ -99,6 +99,6 @@ module _ (n : ℕ) (t : List ℕ) (at stride : ℕ) where
   none-yet = refl
 
 -- a list of 32 bytes is one configuration
-pub one-only : (n : ℕ) (c : List ℕ) (stride : ℕ) → length c ≡ 32 → validTo n c 0 stride 1 ≡ valid n c
+pub one-only : (n : ℕ) (c : List ℕ) (stride : ℕ) → length c ≡ configSize → validTo n c 0 stride 1 ≡ valid n c
 unfolding validTo allBelow
-one-only n c stride l = rw (mul-zero stride) (ap (valid n) (take-all 32 c (omega arith)))
+one-only n c stride l = rw (mul-zero stride) (ap (valid n) (take-all configSize c (omega arith)))

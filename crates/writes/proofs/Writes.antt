@@ -79,7 +79,7 @@ through-block t block a k h q = let e = part-length t a k h in part-whole block 
 -- copies, one after the other
 pub lay-start : (t : List ℕ) (a : ℕ) → a + copySize ≤ length t → t ≡ over t a (repeated 1 (part t a copySize))
 unfolding repeated
-lay-start t a h = rw (append-nil (part t a 56)) (sym (over-own t a 56 h))
+lay-start t a h = rw (append-nil (part t a copySize)) (sym (over-own t a copySize h))
 
 module _ (copy : List ℕ) (size : length copy ≡ copySize) where
   repeated-add : (j k : ℕ) → repeated (j + k) copy ≡ repeated j copy ++ repeated k copy
@@ -92,7 +92,7 @@ module _ (copy : List ℕ) (size : length copy ≡ copySize) where
       let e : k ≡ s + (k - s) = omega arith in
       let long = repeated-length s copy size in
       rw (e, repeated-add s (k - s))
-      (part-left (repeated s copy) (repeated (k - s) copy) 0 (56 * s) (omega arith) ∙ take-all (56 * s) (repeated s copy) (omega arith))
+      (part-left (repeated s copy) (repeated (k - s) copy) 0 (copySize * s) (omega arith) ∙ take-all (copySize * s) (repeated s copy) (omega arith))
 
   -- k copies from a place on, and the first s of them once more behind them
   pub lay-turn : (t u : List ℕ) (a k s : ℕ) → s ≤ k → a + copySize * (k + s) ≤ length t → u ≡ over t a (repeated k copy)
@@ -101,7 +101,7 @@ module _ (copy : List ℕ) (size : length copy ≡ copySize) where
       let long = repeated-length k copy size in
       let more = repeated-length s copy size in
       let f : a + length (repeated k copy) ≤ length t = rw long (omega arith) in
-      let e = rw (add-zero a) at (part-inside t a (repeated k copy) f 0 (56 * s) (rw long (omega arith))) in
+      let e = rw (add-zero a) at (part-inside t a (repeated k copy) f 0 (copySize * s) (rw long (omega arith))) in
       rw (so-far, e, repeated-part k s h, ← long, repeated-add k s)
       (sym (over-append t a (repeated k copy) (repeated s copy) (rw (length-append, long, more) (omega arith))))
 
@@ -129,5 +129,5 @@ lay-all t n m value config some size long {h} {u} first second =
     let e = copy-length 0 value 0 config long in
     let f = repeated-length (n * m) copy e in
     let same : length h ≡ length t = rw first (length-over t 0 head (omega arith)) in
-    rw (second, part-whole h 56 copy (omega arith) 56 e, all-copies h (n * m) copy some e (omega arith), first)
+    rw (second, part-whole h copiesAt copy (omega arith) copySize e, all-copies h (n * m) copy some e (omega arith), first)
     (sym (over-append t 0 head copies (rw length-append (omega arith))) ∙ over-all t (head ++ copies) (rw length-append (omega arith)))

@@ -1,6 +1,7 @@
 use mathlib.Core.Path.{refl, _∙_}
 use native.Mathlib.Omega.{arith}
 use lib.Seq.{take-all}
+use Rattle.quorum.specs.Configurations.{configSize}
 use Rattle.layout.proofs.Soundness.{sound-head}
 use Rattle.rules.specs.Calls.{openChange}
 use Rattle.rules.specs.Figures.{figuresOf}
@@ -60,7 +61,7 @@ returns-2 c =
     let e = asked .open-change-number .ensures in
     let l = shown _ (start .pre) (openChange _ _) refl e (allowed .if1 .left) .1 .1 .0 .long in
     plain-finished _ (start .pre) (openChange _ _) refl e refl (allowed .if1 .left) (c .plain2 .ensures)
-    (written .set-round .ensures ∙ rw (copied .config-bytes-at .ensures, take-all 32 (start .args .target .now) (omega arith)))
+    (written .set-round .ensures ∙ rw (copied .config-bytes-at .ensures, take-all configSize (start .args .target .now) (omega arith)))
 
 pub open-change-on-spec : {M : Type 1} → statement M
 open-change-on-spec =

@@ -6,6 +6,7 @@ use mathlib.Core.Bool.{true}
 use Prim.Native.Nat.{_+_, _-_, _*_, _≤_}
 use lib.ListN.{length}
 use borrow.Author.Tests.{not-true, not-false}
+use Rattle.quorum.specs.Configurations.{configSize}
 use Rattle.validity.specs.Pairs.{validAt, validTo}
 use Rattle.validity.proofs.Same.{none-yet, one-more, one-fails}
 use Rattle.validity.proofs.all_valid.Statement.{statement}
@@ -19,7 +20,7 @@ abbrev μ-loop : tie.MeasureT-loop
 
 -- the bytes of configuration k
 room : (c : tie.In-loop Inv-loop μ-loop) → let a = c .before .before .before .args in
-    a .at + a .stride * c .before .loop .k + 32 ≤ length (a .bytes .now)
+    a .at + a .stride * c .before .loop .k + configSize ≤ length (a .bytes .now)
 room c = c .before .before .before .pre .4 (c .before .loop .k) (c .loop-test .taken)
 
 loop-holds : tie.Need-loop-holds Inv-loop μ-loop

@@ -1,6 +1,7 @@
 use borrow.Author.Needs.{needs}
 use native.Mathlib.Omega.{arith}
 use mathlib.Core.Path.{_∙_}
+use Rattle.layout.specs.Layout.{copySize}
 use Rattle.validity.proofs.Pairs.{invalid}
 use Rattle.validity.proofs.Same.{one-only}
 use Rattle.validity.proofs.is_valid.Statement.{statement}
@@ -20,7 +21,7 @@ all-valid-requires c κs =
     (search needs, search needs, search needs, search needs, λ k l. omega (arith, c .before .before .if1 .left))
 
 returns-4 : tie.Need-returns-4
-returns-4 c = c .all-valid .ensures ∙ one-only _ _ 56 (c .before .before .before .if1 .left)
+returns-4 c = c .all-valid .ensures ∙ one-only _ _ copySize (c .before .before .before .if1 .left)
 
 pub is-valid-spec : {M : Type 1} → statement M
 is-valid-spec = tie.close (tie.spec returns returns-2 returns-3 all-valid-requires returns-4)

@@ -4,6 +4,7 @@ use mathlib.Core.Path.{_≡_, sym, _∙_}
 use Prim.Native.Nat.{ℕ, _+_, _-_, _*_, _≤_, _<_}
 use lib.ListN.{length}
 use borrow.Author.Tests.{not-false}
+use Rattle.quorum.specs.Configurations.{configSize}
 use Rattle.validity.specs.Pairs.{StillValid}
 use Rattle.validity.proofs.Same.{stride-on, eight-more}
 use Rattle.validity.proofs.past_eights.Statement.{statement}
@@ -17,7 +18,7 @@ abbrev μ-loop : tie.MeasureT-loop
 
 -- the bytes of the one before the next, and of the eight from the next on
 room : (c : tie.In-loop Inv-loop μ-loop) → let a = c .before .before .before .before .args in
-    (i : ℕ) → i < c .before .loop .k + 8 → a .at + a .stride * i + 32 ≤ length (a .bytes .now)
+    (i : ℕ) → i < c .before .loop .k + 8 → a .at + a .stride * i + configSize ≤ length (a .bytes .now)
 room c i l = c .before .before .before .before .pre .4 i (omega arith)
 
 -- there is one before the next

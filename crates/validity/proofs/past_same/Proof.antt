@@ -4,6 +4,7 @@ use mathlib.Core.Path.{_≡_, sym, _∙_}
 use Prim.Native.Nat.{_+_, _-_, _*_, _≤_}
 use lib.ListN.{length}
 use borrow.Author.Tests.{not-false}
+use Rattle.quorum.specs.Configurations.{configSize}
 use Rattle.validity.specs.Pairs.{StillValid}
 use Rattle.validity.proofs.Same.{stride-next, next-same}
 use Rattle.validity.proofs.past_same.Statement.{statement}
@@ -17,7 +18,7 @@ abbrev μ-loop : tie.MeasureT-loop
 
 -- the bytes of the next one
 room : (c : tie.In-loop Inv-loop μ-loop) → let a = c .before .before .before .args in
-    a .at + a .stride * c .before .loop .k + 32 ≤ length (a .bytes .now)
+    a .at + a .stride * c .before .loop .k + configSize ≤ length (a .bytes .now)
 room c = c .before .before .before .pre .4 (c .before .loop .k) (c .loop-test .taken)
 
 -- there is one before it, a stride before it

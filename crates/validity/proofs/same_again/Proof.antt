@@ -3,6 +3,7 @@ use Prim.Native.Nat.{_+_, _-_, _≤_}
 use mathlib.Core.Path.{_≡_, refl, sym}
 use lib.ListN.{getD}
 use lib.Dec.{eqb}
+use Rattle.quorum.specs.Configurations.{configSize}
 use Rattle.basics.specs.Tests.{allBelow}
 use Rattle.validity.specs.Pairs.{sameAgain}
 use Rattle.basics.proofs.Tests.{all-start, all-turn, all-end}
@@ -10,10 +11,10 @@ use Rattle.validity.proofs.same_again.Statement.{statement}
 use Rattle.validity.proofs.same_again.Tie as tie
 
 abbrev Inv-loop : tie.InvT-loop
-Inv-loop bytes at stride ok₀ i₀ ok i = (i ≤ 32) × (ok ≡ allBelow (λ k. eqb (getD bytes (at + stride + k) 0) (getD bytes (at + k) 0)) i)
+Inv-loop bytes at stride ok₀ i₀ ok i = (i ≤ configSize) × (ok ≡ allBelow (λ k. eqb (getD bytes (at + stride + k) 0) (getD bytes (at + k) 0)) i)
 
 abbrev μ-loop : tie.MeasureT-loop
-μ-loop bytes at stride ok₀ i₀ ok i = 32 - i
+μ-loop bytes at stride ok₀ i₀ ok i = configSize - i
 
 loop-holds : tie.Need-loop-holds Inv-loop μ-loop
 loop-holds c = (search needs, sym (all-start _))
@@ -44,7 +45,7 @@ loop-again c = (search needs, all-turn _ _ (c .before .before .before .loop .inv
 
 returns : tie.Need-returns Inv-loop μ-loop
 unfolding sameAgain
-returns c = all-end _ 32 _ (c .before .loop .inv .0) (c .loop-test .left) (c .before .loop .inv .1)
+returns c = all-end _ configSize _ (c .before .loop .inv .0) (c .loop-test .left) (c .before .loop .inv .1)
 
 pub same-again-spec : {M : Type 1} → statement M
 same-again-spec =

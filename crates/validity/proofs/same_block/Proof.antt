@@ -2,6 +2,7 @@ use native.Mathlib.Omega.{arith}
 use borrow.Author.Needs.{needs}
 use mathlib.Core.Path.{_≡_, sym}
 use Prim.Native.Nat.{_+_, _-_, _≤_}
+use Rattle.quorum.specs.Configurations.{configSize}
 use Rattle.basics.specs.Tests.{allBelow}
 use Rattle.basics.proofs.Tests.{all-start, all-turn, all-end}
 use Rattle.validity.specs.Pairs.{sameLane, sameBlock}
@@ -9,10 +10,10 @@ use Rattle.validity.proofs.same_block.Statement.{statement}
 use Rattle.validity.proofs.same_block.Tie as tie
 
 abbrev Inv-loop : tie.InvT-loop
-Inv-loop bytes at stride ok₀ b₀ ok b = (b ≤ 32) × (ok ≡ allBelow (λ i. sameLane bytes (at + i) stride) b)
+Inv-loop bytes at stride ok₀ b₀ ok b = (b ≤ configSize) × (ok ≡ allBelow (λ i. sameLane bytes (at + i) stride) b)
 
 abbrev μ-loop : tie.MeasureT-loop
-μ-loop bytes at stride ok₀ b₀ ok b = 32 - b
+μ-loop bytes at stride ok₀ b₀ ok b = configSize - b
 
 loop-holds : tie.Need-loop-holds Inv-loop μ-loop
 loop-holds c = (search needs, sym (all-start _))
@@ -34,7 +35,7 @@ loop-again c = (search needs, all-turn _ _ (c .before .before .loop .inv .1) (c 
 
 returns : tie.Need-returns Inv-loop μ-loop
 unfolding sameBlock
-returns c = all-end _ 32 _ (c .before .loop .inv .0) (c .loop-test .left) (c .before .loop .inv .1)
+returns c = all-end _ configSize _ (c .before .loop .inv .0) (c .loop-test .left) (c .before .loop .inv .1)
 
 pub same-block-spec : {M : Type 1} → statement M
 same-block-spec =

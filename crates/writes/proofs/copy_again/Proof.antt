@@ -1,4 +1,5 @@
 use lib.ListN.{replicate, length-replicate}
+use Rattle.layout.specs.Layout.{copiesAt}
 use Rattle.writes.proofs.Writes.{through-block}
 use borrow.Author.Needs.{needs}
 use Rattle.writes.proofs.copy_again.Statement.{statement}
@@ -23,7 +24,7 @@ returns : tie.Need-returns
 returns c =
     let s = c .before .before .before .before .before .before .before .before .before .before in
     let read = c .before .before .before .before .before .before .put-part .ensures in
-    let same = through-block (s .args .t .now) (replicate 14336 0) 56 (s .args .count) (s .pre .1) (rw length-replicate (s .pre .0)) in
+    let same = through-block (s .args .t .now) (replicate 14336 0) copiesAt (s .args .count) (s .pre .1) (rw length-replicate (s .pre .0)) in
     rw (c .before .before .put-part2 .ensures, read, same)
 
 pub copy-again-spec : {M : Type 1} → statement M

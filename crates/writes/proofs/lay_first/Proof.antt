@@ -1,3 +1,4 @@
+use Rattle.layout.specs.Layout.{copiesAt}
 use Rattle.writes.proofs.Writes.{whole-copy}
 use lib.Seq.{take-all}
 use native.Mathlib.Omega.{arith}
@@ -28,7 +29,7 @@ returns c =
       config,
       take-all 32 (a .config .now) (omega arith),
     )
-    (whole-copy (a .t .now) 56 0 (a .value) 0 (a .config .now) (s .pre .0) (s .pre .1))
+    (whole-copy (a .t .now) copiesAt 0 (a .value) 0 (a .config .now) (s .pre .0) (s .pre .1))
 
 pub lay-first-spec : {M : Type 1} → statement M
 lay-first-spec =

@@ -1,4 +1,5 @@
 use borrow.Author.Needs.{needs}
+use Rattle.layout.specs.Layout.{copiesAt, copySize}
 use Rattle.writes.proofs.Writes.{lay-start, lay-turn}
 use Rattle.basics.proofs.Parts.{part-length}
 use Rattle.layout.specs.Updates.{repeated}
@@ -11,13 +12,13 @@ use Rattle.writes.proofs.lay_rest.Statement.{statement}
 use Rattle.writes.proofs.lay_rest.Tie as tie
 
 abbrev Inv-loop : tie.InvT-loop
-Inv-loop t₀ copies k₀ t k = (1 ≤ k) × (k ≤ copies) × (length t ≡ length t₀) × (t ≡ over t₀ 56 (repeated k (part t₀ 56 56)))
+Inv-loop t₀ copies k₀ t k = (1 ≤ k) × (k ≤ copies) × (length t ≡ length t₀) × (t ≡ over t₀ copiesAt (repeated k (part t₀ copiesAt copySize)))
 
 abbrev μ-loop : tie.MeasureT-loop
 μ-loop t₀ copies k₀ t k = copies - k
 
 loop-holds : tie.Need-loop-holds Inv-loop μ-loop
-loop-holds c = (omega arith, c .before .pre .0, refl, lay-start _ 56 (omega arith))
+loop-holds c = (omega arith, c .before .pre .0, refl, lay-start _ copiesAt (omega arith))
 
 sub-least : tie.Need-sub-least Inv-loop μ-loop
 sub-least c = search needs
@@ -48,11 +49,11 @@ loop-again c =
     let t₀ = c .before .before .before .before .before .before .before .before .args .t .now in
     let l = c .before .before .before .before .before .before .loop in
     let more = c .before .before .before .before .least .result in
-    let size = part-length t₀ 56 56 (omega arith) in (
+    let size = part-length t₀ copiesAt copySize (omega arith) in (
       omega arith,
       omega arith,
       c .before .before .copy-again .kept .0 ∙ l .inv .2,
-      c .before .before .copy-again .ensures ∙ lay-turn (part t₀ 56 56) size t₀ (l .t) 56 (l .k) more (omega arith) (omega arith) (l .inv .3),
+      c .before .before .copy-again .ensures ∙ lay-turn (part t₀ copiesAt copySize) size t₀ (l .t) copiesAt (l .k) more (omega arith) (omega arith) (l .inv .3),
     )
 
 same-length : tie.Need-same-length Inv-loop μ-loop

@@ -1,6 +1,8 @@
 use Prim.Native.Nat.{_+_, _-_}
 use mathlib.Core.Path.{_≡_}
 use native.Mathlib.Omega.{arith}
+use Rattle.quorum.specs.Configurations.{configSize}
+use Rattle.layout.specs.Layout.{copyConfigAt}
 use Rattle.layout.specs.Fields.{copyFrom}
 use borrow.Author.Needs.{needs}
 use Rattle.table.proofs.copy.config_at.Statement.{statement}
@@ -23,7 +25,7 @@ part-result-end c = search needs
 
 returns : tie.Need-returns
 unfolding copyFrom
-returns c = let at = c .before .args .at in let e : at + 24 + 32 - (at + 24) ≡ 32 = omega arith in rw e
+returns c = let at = c .before .args .at in let e : at + copyConfigAt + configSize - (at + copyConfigAt) ≡ configSize = omega arith in rw e
 
 pub config-at-spec : {M : Type 1} → statement M
 config-at-spec =

@@ -1,5 +1,6 @@
 use native.Mathlib.Omega.{arith}
 use mathlib.Core.Path.{sym, _∙_}
+use Rattle.quorum.specs.Configurations.{configSize}
 use Rattle.basics.proofs.Writing.{Writing, writing-start, writing-turn, writing-end, part-next, list-done, over-all}
 use native.Mathlib.Nat.{zero-add}
 use Rattle.basics.proofs.Parts.{part-length}
@@ -11,10 +12,10 @@ use Rattle.table.proofs.number.config_bytes_at.Statement.{statement}
 use Rattle.table.proofs.number.config_bytes_at.Tie as tie
 
 abbrev Inv-loop : tie.InvT-loop
-Inv-loop t at config₀ k₀ config k = (k ≤ 32) × Writing config₀ config 0 k (part t at 32) (drop k (part t at 32))
+Inv-loop t at config₀ k₀ config k = (k ≤ configSize) × Writing config₀ config 0 k (part t at configSize) (drop k (part t at configSize))
 
 abbrev μ-loop : tie.MeasureT-loop
-μ-loop t at config₀ k₀ config k = 32 - k
+μ-loop t at config₀ k₀ config k = configSize - k
 
 loop-holds : tie.Need-loop-holds Inv-loop μ-loop
 loop-holds c = (search needs, writing-start _ _ _)
@@ -43,9 +44,9 @@ loop-again c =
 returns : tie.Need-returns Inv-loop μ-loop
 returns c =
     let a = c .before .before .args in
-    let l = part-length (a .t .now) (a .at) 32 (c .before .before .pre) in
-    writing-end (c .before .loop .inv .1) (list-done (part (a .t .now) (a .at) 32) (c .before .loop .k) (omega arith))
-    ∙ over-all _ (part (a .t .now) (a .at) 32) l
+    let l = part-length (a .t .now) (a .at) configSize (c .before .before .pre) in
+    writing-end (c .before .loop .inv .1) (list-done (part (a .t .now) (a .at) configSize) (c .before .loop .k) (omega arith))
+    ∙ over-all _ (part (a .t .now) (a .at) configSize) l
 
 pub config-bytes-at-spec : {M : Type 1} → statement M
 config-bytes-at-spec =

@@ -1,3 +1,4 @@
+use Rattle.quorum.specs.Configurations.{configSize}
 use Rattle.basics.proofs.Writing.{Writing, writing-start, writing-turn, writing-end, list-next, list-done}
 use borrow.Author.Needs.{needs}
 use Prim.Native.Nat.{_-_, _≤_}
@@ -7,10 +8,10 @@ use Rattle.table.proofs.number.put_config_bytes.Statement.{statement}
 use Rattle.table.proofs.number.put_config_bytes.Tie as tie
 
 abbrev Inv-loop : tie.InvT-loop
-Inv-loop t₀ at config k₀ t k = (k ≤ 32) × Writing t₀ t at k config (drop k config)
+Inv-loop t₀ at config k₀ t k = (k ≤ configSize) × Writing t₀ t at k config (drop k config)
 
 abbrev μ-loop : tie.MeasureT-loop
-μ-loop t₀ at config k₀ t k = 32 - k
+μ-loop t₀ at config k₀ t k = configSize - k
 
 loop-holds : tie.Need-loop-holds Inv-loop μ-loop
 loop-holds c = (search needs, writing-start _ _ _)
