@@ -7,6 +7,7 @@ use lib.Dec.{ltb}
 use lib.ListN.{length, getD}
 use Rattle.basics.specs.Bytes.{part, number}
 use Rattle.quorum.specs.Configurations.{configSize}
+use Rattle.layout.specs.View.{Table}
 use Rattle.rules.specs.Calls.{Call, lay, openRead, openWrite, openChange, poll, put, commit, abandon, link, reach}
 use Rattle.rules.specs.Reply.{reply, after}
 use Rattle.rules.specs.declared.Reply.{Reply}
@@ -50,10 +51,10 @@ callAt code arguments = cond (ltb (length arguments) (frameLength code - 1)) non
 abbrev pub falseFrame : Reply
 falseFrame = record { number = 12; first = 0; second = 0; third = 0 }
 
-abbrev pub replyOr : List ℕ → Option Call → Reply
+abbrev pub replyOr : Table → Option Call → Reply
 replyOr t none = falseFrame
 replyOr t (some c) = reply t c
 
-abbrev pub afterOr : List ℕ → Option Call → List ℕ
+abbrev pub afterOr : Table → Option Call → Table
 afterOr t none = t
 afterOr t (some c) = after t c

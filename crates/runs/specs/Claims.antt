@@ -6,6 +6,7 @@ use mathlib.Core.Option.{some}
 use Prim.Native.Nat.{ℕ, _*_, _<_}
 use lib.ListN.{length}
 use Rattle.basics.specs.Bytes.{AreBytes}
+use Rattle.layout.specs.View.{Table}
 use Rattle.rules.specs.Calls.{Call, lay}
 use Rattle.rules.specs.declared.Reply.{Reply}
 use Rattle.rules.specs.Passed.{Passable}
@@ -45,10 +46,10 @@ pub record Claims : Type 0 where
   pub reply-length : (call : ℕ) (r : Reply) → length (replyLine call r) ≡ replyLineSize
   pub reply-read-back : (call : ℕ) (r : Reply) → call < 256 → Showable r → Shows (bytesIn (replyLine call r)) call r
   -- ---- every line of a session on bytes prints what `replyTo` replies, each figure whole, and leaves bytes
-  pub prints-the-reply : (t line : List ℕ) → AreBytes t → Shows (bytesIn (printed t line)) (callByte line) (replyTo t line)
-  pub stays-bytes : (t line : List ℕ) → AreBytes t → AreBytes (tableAfter t line)
+  pub prints-the-reply : (t : Table) (line : List ℕ) → AreBytes t → Shows (bytesIn (printed t line)) (callByte line) (replyTo t line)
+  pub stays-bytes : (t : Table) (line : List ℕ) → AreBytes t → AreBytes (tableAfter t line)
   -- ---- a long line can be cut: the first 87 bytes of a line tell its reply
-  pub cut-line : (t line : List ℕ) → (printed t (clip line) ≡ printed t line) × (tableAfter t (clip line) ≡ tableAfter t line)
+  pub cut-line : (t : Table) (line : List ℕ) → (printed t (clip line) ≡ printed t line) × (tableAfter t (clip line) ≡ tableAfter t line)
   -- ---- no line is lost or split however the input is cut into reads
   pub in-pieces : (pieces : List (List ℕ)) → inPieces start pieces ≡ run (joined pieces)
   -- and the table in hand at the end is the one after the lines of the whole
@@ -57,7 +58,7 @@ pub record Claims : Type 0 where
   -- with the numbers of their replies, whatever the book held at first. What is printed are these replies (`prints-the-reply`).
   pub shows-the-book : (input : List ℕ) (b : Book) → OneCopy b (callsIn (linesOf input)) (repliesIn [] (linesOf input))
   -- a lay that replies 0 begins a stretch of the session that is a list of demand 3, and the session replies as that list does
-  pub list-of-demand-3 : (t line : List ℕ) (n m value : ℕ) (config : List ℕ) (lines : List (List ℕ))
+  pub list-of-demand-3 : (t : Table) (line : List ℕ) (n m value : ℕ) (config : List ℕ) (lines : List (List ℕ))
       → callOf line ≡ some (lay n m value config) → replyTo t line .number ≡ 0 → NoLayDone (tableAfter t line) lines
       → replyTo t line ∷ repliesOn (tableAfter t line) lines
       ≡ replies (lent t (lay n m value config)) (lay n m value config ∷ callsOn lines)

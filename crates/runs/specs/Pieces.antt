@@ -4,6 +4,7 @@ use mathlib.Core.List.{List, [], _∷_, _++_}
 use Prim.Native.Nat.{ℕ, _+_, _*_}
 use lib.Dec.{eqb}
 use lib.ListN.{take}
+use Rattle.layout.specs.View.{Table}
 use Rattle.dispatch.specs.Dispatch.{longest}
 use Rattle.replies.specs.ReplyLine.{lineEnd}
 use Rattle.runs.specs.Session.{tableAfter, printed}
@@ -17,7 +18,7 @@ clip line = take enough line
 
 -- what is in hand between two bytes: the table in use, and the line so far
 pub record InHand : Type 0 where
-  pub table : List ℕ
+  pub table : Table
   pub line : List ℕ
 
 abbrev pub start : InHand
@@ -44,11 +45,11 @@ printedBy s [] = []
 printedBy s (byte ∷ rest) = printedAt s byte ++ printedBy (next s byte) rest
 
 -- ---- the end of input, as `linesOf` has it (`in-pieces`): "A last line of one byte or more without its line end counts as a line."
-abbrev pub printedLast : List ℕ → List ℕ → List ℕ
+abbrev pub printedLast : Table → List ℕ → List ℕ
 printedLast t [] = []
 printedLast t (byte ∷ rest) = printed t (byte ∷ rest)
 
-abbrev pub tableLast : List ℕ → List ℕ → List ℕ
+abbrev pub tableLast : Table → List ℕ → Table
 tableLast t [] = t
 tableLast t (byte ∷ rest) = tableAfter t (byte ∷ rest)
 
@@ -56,7 +57,7 @@ abbrev pub afterLast : InHand → InHand
 afterLast s = record { table = tableLast (s .table) (s .line); line = [] }
 
 -- the table after lines, one after the other: what `afterLast` comes to over a whole input (`table-at-the-end`)
-unfoldable pub tableAfterAll : List ℕ → List (List ℕ) → List ℕ
+unfoldable pub tableAfterAll : Table → List (List ℕ) → Table
 tableAfterAll t [] = t
 tableAfterAll t (line ∷ lines) = tableAfterAll (tableAfter t line) lines
 

@@ -14,7 +14,7 @@ use Rattle.frames.specs.Frame.{callByte, callOf}
 use Rattle.replies.specs.ReplyLine.{replyLine}
 
 -- The bytes that a call is lent. "For a lay the runner lends just the length that its n and m need." What these bytes hold is free:
--- "Lay looks at nothing but its arguments and the table's length" (Twice.antt of the rules). Every other call gets the table in use.
+-- "Lay looks at nothing but its arguments and the table's length" (LayAlone.antt of the rules). Every other call gets the table in use.
 abbrev pub layNeed : Call → ℕ
 layNeed = layOr (λ n m value config. layLength n m) 0
 
