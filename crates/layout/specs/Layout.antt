@@ -5,7 +5,7 @@ use lib.Dec.{leb}
 
 -- "Head, 56 bytes: 0 n; 1 m; 2–3 set of stations off the bus; 4 round (0 none, 1 read, 2 write, 3 change); 5 item;
 -- 6–7 polled set; 8–9 data puts; 10–11 configuration puts; 12–15 zero; 16–23 value to write; 24–55 target configuration."
--- Its size, which is where its last field ends, and then its fields in this order.
+-- Its size, where its last field ends; then the places of its fields, in this order.
 abbrev pub headSize : ℕ
 headSize = 56
 
@@ -42,8 +42,7 @@ valueAt = 16
 abbrev pub targetAt : ℕ
 targetAt = 24
 
--- The copies start here, where the head's fields end: "The copy of item i at station s starts at 56 + .." Two names, since a field of the head
--- and the place of a copy are not the same thing.
+-- Where the copies start: "The copy of item i at station s starts at 56 + .." Here that is where the head ends.
 abbrev pub copiesAt : ℕ
 copiesAt = 56
 

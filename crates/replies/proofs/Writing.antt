@@ -4,10 +4,10 @@ use mathlib.Core.List.{List, [], _∷_, _++_}
 use Prim.Native.Nat.{ℕ, suc, _+_, _*_, _/_, _%_, _≤_, _<_}
 use native.Mathlib.Omega.{arith}
 use native.Mathlib.Numerals.{add-one}
-use lib.ListN.{length, getD, take, set, length-set, length-append}
+use lib.ListN.{length, getD, take, drop, set, length-set, length-append, take-append-drop}
 use lib.Seq.{take-suc, take-all, length-take-le}
 use Rattle.basics.specs.Bytes.{over}
-use Rattle.basics.proofs.Parts.{over-cons, over-nil, over-append}
+use Rattle.basics.proofs.Parts.{length-over, over-cons, over-nil, over-append}
 use Rattle.frames.specs.Hex.{digitOf, hexOf}
 use Rattle.frames.proofs.Digits.{hex-length}
 
@@ -54,12 +54,31 @@ module _ (old : List ℕ) (at : ℕ) (bytes : List ℕ) (room : at + 2 * length 
       in
       (rw (length-set, length-set) (s .0), sym e)
 
-  -- the line end behind them
-  pub show-end : (k end : ℕ) (out : List ℕ) → length bytes ≤ k → at + 2 * length bytes < length old → Shown old at bytes k out
-      → set out (at + 2 * length bytes) end ≡ over old at (hexOf bytes ++ (end ∷ []))
-  show-end k end out l h s =
+  pub show-end : (k : ℕ) (out : List ℕ) → length bytes ≤ k → Shown old at bytes k out → out ≡ over old at (hexOf bytes)
+  show-end k out l s = rw (take-all k bytes l) at (s .1)
+
+-- ---- a line: the characters of the first k bytes, those of the others, and the line end
+module _ (t : List ℕ) (at k : ℕ) (bytes : List ℕ) (few : k ≤ length bytes) (room : at + 2 * length bytes < length t) where
+  abbrev first : List ℕ
+  first = hexOf (take k bytes)
+
+  abbrev others : List ℕ
+  others = hexOf (drop k bytes)
+
+  whole : hexOf bytes ≡ first ++ others
+  whole = ap hexOf (sym (take-append-drop k bytes)) ∙ hex-append (take k bytes) (drop k bytes)
+
+  first-length : length first ≡ 2 * k
+  first-length = hex-length (take k bytes) ∙ ap (λ n. 2 * n) (length-take-le k bytes few)
+
+  pub bytes-shown : over (over t at first) (at + 2 * k) others ≡ over t at (hexOf bytes)
+  bytes-shown =
+      let fits : at + length (first ++ others) ≤ length t = rw (← whole, hex-length bytes) (omega arith) in
+      rw whole (sym (over-append t at first others fits ∙ rw first-length))
+
+  pub line-shown : (end : ℕ) → set (over (over t at first) (at + 2 * k) others) (at + 2 * length bytes) end ≡ over t at (hexOf bytes ++ (end ∷ []))
+  line-shown end =
       let n = hex-length bytes in
-      let fits : at + length (hexOf bytes ++ (end ∷ [])) ≤ length old = omega (arith, length-append (hexOf bytes) (end ∷ []), n) in
-      let all = rw (take-all k bytes l) at (s .1) in
-      let here : at + 2 * length bytes < length out = omega (arith, s .0) in
-      sym (over-append old at (hexOf bytes) (end ∷ []) fits ∙ rw (n, ← all) (over-one out (at + 2 * length bytes) end here))
+      let fits : at + length (hexOf bytes ++ (end ∷ [])) ≤ length t = omega (arith, length-append (hexOf bytes) (end ∷ []), n) in
+      let here : at + 2 * length bytes < length (over t at (hexOf bytes)) = rw (length-over t at (hexOf bytes) (omega arith)) room in
+      rw bytes-shown (sym (over-append t at (hexOf bytes) (end ∷ []) fits ∙ rw n (over-one (over t at (hexOf bytes)) (at + 2 * length bytes) end here)))

@@ -1,8 +1,9 @@
 // Reply lines: "A reply is the call byte, the number, three figures of 8 bytes."
 ghost use mathlib.Core.Path.{_≡_};
-ghost use Prim.Native.Nat.{_+_, _≤_};
+ghost use Prim.Native.Nat.{_+_, _*_, _≤_};
 ghost use lib.ListN.{length};
 ghost use Rattle.basics.specs.Bytes.{over};
+ghost use Rattle.frames.specs.Hex.{hexOf};
 ghost use Rattle.replies.specs.ReplyLine.{replyBytes, replyLine, replyLineSize};
 use frames::hex;
 use rules::Reply;
@@ -29,16 +30,26 @@ fn reply_bytes(call: u8, r: Reply) -> [u8; REPLY_SIZE]
     bytes
 }
 
-// The reply line, its end with it, from a place of the output on.
+// The characters of bytes, from a place of the output on.
+fn write_hex(bytes: &[u8], out: &mut [u8], at: usize)
+    requires { ⌜ at + 2 * length (now bytes) ≤ length (now out) ⌝ }
+    ensures { λ _. ⌜ now (out .exit) ≡ over (now (out .entry)) at (hexOf (now (bytes .entry))) ⌝ }
+{
+    for k in 0..bytes.len() {
+        let byte = bytes[k];
+        out[at + 2 * k] = hex::high_digit(byte);
+        out[at + 2 * k + 1] = hex::low_digit(byte);
+    }
+}
+
+// The reply line, its end with it, from a place of the output on. The figures are taken apart from the two bytes before them, so that the machine
+// reads them eight bytes at a time as they were written.
 pub fn write_reply(call: u8, r: Reply, out: &mut [u8], at: usize)
     requires { ⌜ at + replyLineSize ≤ length (now out) ⌝ }
     ensures { λ _. ⌜ now (out .exit) ≡ over (now (out .entry)) at (replyLine call r) ⌝ }
 {
     let bytes = reply_bytes(call, r);
-    for k in 0..REPLY_SIZE {
-        let byte = bytes[k];
-        out[at + 2 * k] = hex::high_digit(byte);
-        out[at + 2 * k + 1] = hex::low_digit(byte);
-    }
+    write_hex(&bytes[..2], out, at);
+    write_hex(&bytes[2..], out, at + 4);
     out[at + 2 * REPLY_SIZE] = LINE_END;
 }
