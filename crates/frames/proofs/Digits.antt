@@ -125,12 +125,6 @@ no-value : (c : ℕ) → isDigit c ≡ false → valueOr c ≡ 255
 unfolding valueOr
 no-value c e = rw e
 
-small-digit : (c : ℕ) → valueOr c ≤ 15 → isDigit c ≡ true
-small-digit c h = either (isDigit c) (λ e. e) (λ e. absurd (omega (arith, no-value c e)))
-
-large-none : (c : ℕ) → 15 < valueOr c → isDigit c ≡ false
-large-none c h = either (isDigit c) (λ e. absurd (omega (arith, value-or c e, value-lt c e))) (λ e. e)
-
 -- ---- two characters: a byte, or none
 module _ (high low : ℕ) where
   both : isDigit high ≡ true → isDigit low ≡ true → byteOr high low ≡ byteOf high low

@@ -142,7 +142,8 @@ module _ (t : List ℕ) (b : AreBytes t) where
       joined l (inr e) = rw (e, join-member c s l (mc e))
 
 -- ---- the reply to the second
--- The table after a call looks like the state after it; so where that state is called sound and of the same sizes, the call gets its reply again.
+-- The table after a call looks like the state after it. So where that state is sound and the same sizes fit, the call gets on the table the reply
+-- that it gets on the state.
 module _ (t : Table) (b : AreBytes t) (c : Call) (p : Passable c) (e : reply t c .number ≡ 0) where
   again : next (view t) c .isSound ≡ true → ((n m : ℕ) → view t .fits n m ≡ next (view t) c .fits n m)
       → reply (after t c) c ≡ replyOf (next (view t) c) c
