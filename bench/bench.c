@@ -16,6 +16,7 @@
 #include "calls.h"
 #include "configurations.h"
 #include "optimised.h"
+#include "options.h"
 
 #include <stdio.h>
 #include <stdlib.h>
@@ -552,26 +553,22 @@ static void print_growth(scene *s, unsigned samples)
 int main(int argc, char **argv)
 {
     static scene s;
-    unsigned samples = 2001;
+    uint64_t samples = 2001;
     bool growth = false;
+    const option all[] = {
+        {.name = "--samples", .number = &samples, .most = SAMPLES_MOST},
+        {.name = "--growth", .flag = &growth},
+    };
 
-    for (int i = 1; i < argc; i++) {
-        if (strcmp(argv[i], "--growth") == 0) {
-            growth = true;
-        } else if (strcmp(argv[i], "--samples") == 0 && i + 1 < argc) {
-            samples = (unsigned)strtoul(argv[++i], NULL, 10);
-        } else {
-            give_up("unknown option", argv[i]);
-        }
-    }
-    if (samples < 1 || samples > SAMPLES_MOST) {
+    options_read(argc, argv, "bench [--growth] [--samples N]", all, sizeof all / sizeof all[0]);
+    if (samples < 1) {
         give_up("samples", "1 to 10001");
     }
     warm_up(&s);
     if (growth) {
-        print_growth(&s, samples);
+        print_growth(&s, (unsigned)samples);
     } else {
-        print_table(&s, samples);
+        print_table(&s, (unsigned)samples);
     }
     return EXIT_SUCCESS;
 }

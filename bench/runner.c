@@ -6,6 +6,8 @@
  */
 #define _POSIX_C_SOURCE 200809L /* read, write */
 
+#include "bytes.h"
+#include "calls.h"
 #include "optimised.h"
 
 #include <errno.h>
@@ -14,10 +16,17 @@
 #include <string.h>
 #include <unistd.h>
 
-enum { BUFFER = 65536, CODES = 11, FRAME_MOST = 43, LINE_MOST = 2 * FRAME_MOST, REPLY_LINE = 53 };
+enum { BUFFER = 65536, CODES = 256, LINE_MOST = 2 * FRAME_MOST, REPLY_LINE = 53 };
 
-/* "Lengths in bytes by code, kept as a table" */
-static const uint8_t FRAME_LENGTHS[CODES] = {0, 43, 2, 10, 34, 2, 3, 1, 1, 3, 2};
+/* "Lengths in bytes by code, kept as a table"; 0 for a code that has none. */
+static uint8_t frame_lengths[CODES];
+
+static void set_frame_lengths(void)
+{
+    for (int i = 0; i < CALL_COUNT; i++) {
+        frame_lengths[CALLS[i].code] = (uint8_t)frame_length(&CALLS[i]);
+    }
+}
 
 /* One more than the value of each upper-case hexadecimal digit; else 0. */
 static const uint8_t DIGITS[256] = {
@@ -49,7 +58,7 @@ static inline bool byte_at(const uint8_t *text, uint8_t *byte)
 /* The frame in a line whose first byte is the code; false if it is no frame. */
 static bool decode(const uint8_t *line, size_t length, uint8_t code, uint8_t frame[FRAME_MOST])
 {
-    if (code >= CODES || FRAME_LENGTHS[code] == 0 || length != 2 * (size_t)FRAME_LENGTHS[code]) {
+    if (frame_lengths[code] == 0 || length != 2 * (size_t)frame_lengths[code]) {
         return false;
     }
     bool digits = true;
@@ -59,13 +68,9 @@ static bool decode(const uint8_t *line, size_t length, uint8_t code, uint8_t fra
     return digits;
 }
 
-static uint64_t value_at(const uint8_t *bytes)
+static inline uint64_t value_at(const uint8_t *bytes)
 {
-    uint64_t value = 0;
-    for (int i = 7; i >= 0; i--) {
-        value = value << 8 | bytes[i];
-    }
-    return value;
+    return get_number(bytes, 8);
 }
 
 /* "For a lay the runner lends just the length that its n and m need." No
@@ -84,7 +89,7 @@ static ospreyscreen_reply lay(runner *r, const uint8_t *frame)
     return reply;
 }
 
-static ospreyscreen_reply call(runner *r, const uint8_t *frame)
+static ospreyscreen_reply make_call(runner *r, const uint8_t *frame)
 {
     switch (frame[0]) {
     case OSPREYSCREEN_LAY:
@@ -106,8 +111,10 @@ static ospreyscreen_reply call(runner *r, const uint8_t *frame)
         return opt_abandon(r->table, r->len);
     case OSPREYSCREEN_LINK:
         return opt_link(r->table, r->len, frame[1], frame[2]);
-    default:
+    case OSPREYSCREEN_REACH:
         return opt_reach(r->table, r->len, frame[1]);
+    default: /* a call that this runner has not been taught */
+        abort();
     }
 }
 
@@ -174,7 +181,7 @@ static void answer(runner *r, const uint8_t *line, size_t length)
     if (length < 2 || !byte_at(line, &code)) {
         code = 0;
     } else if (decode(line, length, code, frame)) {
-        reply = call(r, frame);
+        reply = make_call(r, frame);
     }
     print_reply(r, code, &reply);
 }
@@ -220,6 +227,7 @@ int main(void)
     static runner r;
     static uint8_t in[BUFFER];
 
+    set_frame_lengths();
     for (;;) {
         ssize_t got = read(STDIN_FILENO, in, sizeof in);
         if (got > 0) {

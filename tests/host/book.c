@@ -34,21 +34,17 @@ static void step_commit(book *b)
 
 void book_step(book *b, const call *c, uint64_t number)
 {
+    int kind = shape_of(c)->opens;
+
     if (number != 0) {
         return;
     }
+    if (kind != OSPREYSCREEN_ROUND_NONE) {
+        step_opening(b, kind, c->numbers[ARGUMENT_ITEM], c->numbers[ARGUMENT_VALUE]);
+    }
     switch (c->code) {
     case OSPREYSCREEN_LAY:
-        step_lay(b, c->value);
-        break;
-    case OSPREYSCREEN_OPEN_READ:
-        step_opening(b, OSPREYSCREEN_ROUND_READ, c->item, 0);
-        break;
-    case OSPREYSCREEN_OPEN_WRITE:
-        step_opening(b, OSPREYSCREEN_ROUND_WRITE, c->item, c->value);
-        break;
-    case OSPREYSCREEN_OPEN_CHANGE:
-        step_opening(b, OSPREYSCREEN_ROUND_CHANGE, c->item, 0);
+        step_lay(b, c->numbers[ARGUMENT_VALUE]);
         break;
     case OSPREYSCREEN_COMMIT:
         step_commit(b);

@@ -1,54 +1,229 @@
 #include "calls.h"
 
-ospreyscreen_reply call_make(const implementation *with, const call *c, uint8_t *table, size_t len)
+#include "bytes.h"
+
+#include <stdio.h>
+#include <stdlib.h>
+#include <string.h>
+
+const argument_shape ARGUMENTS[ARGUMENT_KINDS] = {
+    [ARGUMENT_N] = {"n", "byte", 1},
+    [ARGUMENT_M] = {"m", "byte", 1},
+    [ARGUMENT_ITEM] = {"item", "byte", 1},
+    [ARGUMENT_STATION] = {"station", "byte", 1},
+    [ARGUMENT_SORT] = {"sort", "sort", 1},
+    [ARGUMENT_STATE] = {"state", "state", 1},
+    [ARGUMENT_VALUE] = {"value", "value", 8},
+    [ARGUMENT_CONFIGURATION] = {"configuration", "configuration", OSPREYSCREEN_CONFIGURATION_LENGTH},
+};
+
+/* ---- One function of an implementation on what is lent ---- */
+
+static ospreyscreen_reply make_lay(const implementation *with, const call *c,
+                                   const loan lent[LENT_KINDS])
 {
-    switch (c->code) {
-    case OSPREYSCREEN_LAY:
-        return with->lay(table, len, c->n, c->m, c->value, c->config, c->config_len);
-    case OSPREYSCREEN_OPEN_READ:
-        return with->open_read(table, len, c->item);
-    case OSPREYSCREEN_OPEN_WRITE:
-        return with->open_write(table, len, c->item, c->value);
-    case OSPREYSCREEN_OPEN_CHANGE:
-        return with->open_change(table, len, c->item, c->config, c->config_len);
-    case OSPREYSCREEN_POLL:
-        return with->poll(table, len, c->station);
-    case OSPREYSCREEN_PUT:
-        return with->put(table, len, c->station, c->sort);
-    case OSPREYSCREEN_COMMIT:
-        return with->commit(table, len);
-    case OSPREYSCREEN_ABANDON:
-        return with->abandon(table, len);
-    case OSPREYSCREEN_LINK:
-        return with->link(table, len, c->station, c->state);
-    default:
-        return with->reach(table, len, c->item);
+    return with->lay(lent[LENT_TABLE].bytes, lent[LENT_TABLE].len, c->numbers[ARGUMENT_N],
+                     c->numbers[ARGUMENT_M], c->numbers[ARGUMENT_VALUE],
+                     lent[LENT_CONFIGURATION].bytes, lent[LENT_CONFIGURATION].len);
+}
+
+static ospreyscreen_reply make_open_read(const implementation *with, const call *c,
+                                         const loan lent[LENT_KINDS])
+{
+    return with->open_read(lent[LENT_TABLE].bytes, lent[LENT_TABLE].len, c->numbers[ARGUMENT_ITEM]);
+}
+
+static ospreyscreen_reply make_open_write(const implementation *with, const call *c,
+                                          const loan lent[LENT_KINDS])
+{
+    return with->open_write(lent[LENT_TABLE].bytes, lent[LENT_TABLE].len, c->numbers[ARGUMENT_ITEM],
+                            c->numbers[ARGUMENT_VALUE]);
+}
+
+static ospreyscreen_reply make_open_change(const implementation *with, const call *c,
+                                           const loan lent[LENT_KINDS])
+{
+    return with->open_change(lent[LENT_TABLE].bytes, lent[LENT_TABLE].len, c->numbers[ARGUMENT_ITEM],
+                             lent[LENT_CONFIGURATION].bytes, lent[LENT_CONFIGURATION].len);
+}
+
+static ospreyscreen_reply make_poll(const implementation *with, const call *c,
+                                    const loan lent[LENT_KINDS])
+{
+    return with->poll(lent[LENT_TABLE].bytes, lent[LENT_TABLE].len, c->numbers[ARGUMENT_STATION]);
+}
+
+static ospreyscreen_reply make_put(const implementation *with, const call *c,
+                                   const loan lent[LENT_KINDS])
+{
+    return with->put(lent[LENT_TABLE].bytes, lent[LENT_TABLE].len, c->numbers[ARGUMENT_STATION],
+                     c->numbers[ARGUMENT_SORT]);
+}
+
+static ospreyscreen_reply make_commit(const implementation *with, const call *c,
+                                      const loan lent[LENT_KINDS])
+{
+    (void)c;
+    return with->commit(lent[LENT_TABLE].bytes, lent[LENT_TABLE].len);
+}
+
+static ospreyscreen_reply make_abandon(const implementation *with, const call *c,
+                                       const loan lent[LENT_KINDS])
+{
+    (void)c;
+    return with->abandon(lent[LENT_TABLE].bytes, lent[LENT_TABLE].len);
+}
+
+static ospreyscreen_reply make_link(const implementation *with, const call *c,
+                                    const loan lent[LENT_KINDS])
+{
+    return with->link(lent[LENT_TABLE].bytes, lent[LENT_TABLE].len, c->numbers[ARGUMENT_STATION],
+                      c->numbers[ARGUMENT_STATE]);
+}
+
+static ospreyscreen_reply make_reach(const implementation *with, const call *c,
+                                     const loan lent[LENT_KINDS])
+{
+    return with->reach(lent[LENT_TABLE].bytes, lent[LENT_TABLE].len, c->numbers[ARGUMENT_ITEM]);
+}
+
+/* ---- The rows ---- */
+
+#define GIVES(number) (1u << OSPREYSCREEN_##number)
+#define OPENING_GIVES (GIVES(DONE) | GIVES(UNSOUND) | GIVES(NO_SUCH_THING) | GIVES(BUSY))
+
+/* The numbers are those of document 01's table, by call. */
+const call_shape CALLS[CALL_COUNT] = {
+    {OSPREYSCREEN_LAY, "lay",
+     4, {ARGUMENT_N, ARGUMENT_M, ARGUMENT_VALUE, ARGUMENT_CONFIGURATION},
+     GIVES(DONE) | GIVES(UNSOUND) | GIVES(NO_SUCH_THING) | GIVES(FALSE_CONFIGURATION),
+     OSPREYSCREEN_ROUND_NONE, make_lay},
+    {OSPREYSCREEN_OPEN_READ, "open read",
+     1, {ARGUMENT_ITEM},
+     OPENING_GIVES, OSPREYSCREEN_ROUND_READ, make_open_read},
+    {OSPREYSCREEN_OPEN_WRITE, "open write",
+     2, {ARGUMENT_ITEM, ARGUMENT_VALUE},
+     OPENING_GIVES, OSPREYSCREEN_ROUND_WRITE, make_open_write},
+    {OSPREYSCREEN_OPEN_CHANGE, "open change",
+     2, {ARGUMENT_ITEM, ARGUMENT_CONFIGURATION},
+     OPENING_GIVES | GIVES(FALSE_CONFIGURATION), OSPREYSCREEN_ROUND_CHANGE, make_open_change},
+    {OSPREYSCREEN_POLL, "poll",
+     1, {ARGUMENT_STATION},
+     GIVES(DONE) | GIVES(UNSOUND) | GIVES(NO_SUCH_THING) | GIVES(IDLE) | GIVES(OFF_THE_BUS) |
+         GIVES(READING_OVER),
+     OSPREYSCREEN_ROUND_NONE, make_poll},
+    {OSPREYSCREEN_PUT, "put",
+     2, {ARGUMENT_STATION, ARGUMENT_SORT},
+     GIVES(DONE) | GIVES(UNSOUND) | GIVES(NO_SUCH_THING) | GIVES(IDLE) | GIVES(OFF_THE_BUS) |
+         GIVES(UNHEARD) | GIVES(WRONG_PUT) | GIVES(SPENT),
+     OSPREYSCREEN_ROUND_NONE, make_put},
+    {OSPREYSCREEN_COMMIT, "commit",
+     0, {0},
+     GIVES(DONE) | GIVES(UNSOUND) | GIVES(IDLE) | GIVES(UNHEARD) | GIVES(SPENT) | GIVES(SHORT),
+     OSPREYSCREEN_ROUND_NONE, make_commit},
+    {OSPREYSCREEN_ABANDON, "abandon",
+     0, {0},
+     GIVES(DONE) | GIVES(UNSOUND) | GIVES(IDLE), OSPREYSCREEN_ROUND_NONE, make_abandon},
+    {OSPREYSCREEN_LINK, "link",
+     2, {ARGUMENT_STATION, ARGUMENT_STATE},
+     GIVES(DONE) | GIVES(UNSOUND) | GIVES(NO_SUCH_THING), OSPREYSCREEN_ROUND_NONE, make_link},
+    {OSPREYSCREEN_REACH, "reach",
+     1, {ARGUMENT_ITEM},
+     GIVES(DONE) | GIVES(UNSOUND) | GIVES(NO_SUCH_THING), OSPREYSCREEN_ROUND_NONE, make_reach},
+};
+
+const call_shape *call_of(int code)
+{
+    for (int i = 0; i < CALL_COUNT; i++) {
+        if (CALLS[i].code == code) {
+            return &CALLS[i];
+        }
     }
+    return NULL;
 }
 
-const char *call_name(int code)
+const call_shape *shape_of(const call *c)
 {
-    static const char *const names[CALL_CODES] = {"",     "lay", "open read", "open write",
-                                                  "open change", "poll", "put", "commit",
-                                                  "abandon", "link", "reach"};
-    return names[code];
+    const call_shape *shape = call_of(c->code);
+    if (shape == NULL) {
+        fprintf(stderr, "no call has the code %d\n", c->code);
+        abort();
+    }
+    return shape;
 }
 
-int call_can_give(int code, uint64_t number)
+ospreyscreen_reply call_make(const implementation *with, const call *c, const loan lent[LENT_KINDS])
 {
-    /* One bit for each number; document 01's table of numbers, by call. */
-    static const unsigned can_give[CALL_CODES] = {
-        [OSPREYSCREEN_LAY] = 1u << 0 | 1u << 1 | 1u << 2 | 1u << 3,
-        [OSPREYSCREEN_OPEN_READ] = 1u << 0 | 1u << 1 | 1u << 2 | 1u << 4,
-        [OSPREYSCREEN_OPEN_WRITE] = 1u << 0 | 1u << 1 | 1u << 2 | 1u << 4,
-        [OSPREYSCREEN_OPEN_CHANGE] = 1u << 0 | 1u << 1 | 1u << 2 | 1u << 3 | 1u << 4,
-        [OSPREYSCREEN_POLL] = 1u << 0 | 1u << 1 | 1u << 2 | 1u << 5 | 1u << 6 | 1u << 7,
-        [OSPREYSCREEN_PUT] =
-            1u << 0 | 1u << 1 | 1u << 2 | 1u << 5 | 1u << 6 | 1u << 8 | 1u << 9 | 1u << 10,
-        [OSPREYSCREEN_COMMIT] = 1u << 0 | 1u << 1 | 1u << 5 | 1u << 8 | 1u << 10 | 1u << 11,
-        [OSPREYSCREEN_ABANDON] = 1u << 0 | 1u << 1 | 1u << 5,
-        [OSPREYSCREEN_LINK] = 1u << 0 | 1u << 1 | 1u << 2,
-        [OSPREYSCREEN_REACH] = 1u << 0 | 1u << 1 | 1u << 2,
-    };
-    return number < REPLY_NUMBERS && (can_give[code] >> number & 1u) != 0;
+    return shape_of(c)->make(with, c, lent);
+}
+
+bool call_can_give(const call_shape *shape, uint64_t number)
+{
+    return number < REPLY_NUMBERS && (shape->numbers >> number & 1) != 0;
+}
+
+bool call_has(const call_shape *shape, argument kind)
+{
+    for (int i = 0; i < shape->argument_count; i++) {
+        if (shape->arguments[i] == kind) {
+            return true;
+        }
+    }
+    return false;
+}
+
+/* ---- Frames ---- */
+
+size_t frame_length(const call_shape *shape)
+{
+    size_t length = 1;
+    for (int i = 0; i < shape->argument_count; i++) {
+        length += ARGUMENTS[shape->arguments[i]].width;
+    }
+    return length;
+}
+
+bool call_from_frame(call *c, const uint8_t *frame, size_t len)
+{
+    const call_shape *shape = len == 0 ? NULL : call_of(frame[0]);
+    if (shape == NULL || len != frame_length(shape)) {
+        return false;
+    }
+    *c = (call){.code = shape->code};
+    const uint8_t *at = frame + 1;
+    for (int i = 0; i < shape->argument_count; i++) {
+        argument kind = shape->arguments[i];
+        if (kind == ARGUMENT_CONFIGURATION) {
+            c->config = at;
+            c->config_len = ARGUMENTS[kind].width;
+        } else {
+            c->numbers[kind] = get_number(at, ARGUMENTS[kind].width);
+        }
+        at += ARGUMENTS[kind].width;
+    }
+    return true;
+}
+
+size_t call_to_frame(const call *c, uint8_t frame[FRAME_MOST])
+{
+    const call_shape *shape = shape_of(c);
+    uint8_t *at = frame;
+
+    *at++ = (uint8_t)shape->code;
+    for (int i = 0; i < shape->argument_count; i++) {
+        argument kind = shape->arguments[i];
+        size_t width = ARGUMENTS[kind].width;
+        if (kind == ARGUMENT_CONFIGURATION) {
+            if (c->config_len != width) {
+                return 0;
+            }
+            memcpy(at, c->config, width);
+        } else if (width < 8 && c->numbers[kind] >> (8 * width) != 0) {
+            return 0;
+        } else {
+            set_number(at, width, c->numbers[kind]);
+        }
+        at += width;
+    }
+    return (size_t)(at - frame);
 }

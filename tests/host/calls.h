@@ -1,28 +1,57 @@
 /*
- * One call with its arguments as data, and the ten functions of an
- * implementation as a table, so that a program can drive any of them.
+ * Calls as data: what calls there are, their arguments and what they can
+ * reply stand here once, for the reference, the runners, the generators and
+ * the test of the decoder. A new call is a row of CALLS, a new argument a row
+ * of ARGUMENTS, a new buffer that is lent a row of LENT (loans.h).
  */
 #ifndef CALLS_H
 #define CALLS_H
 
 #include "ospreyscreen.h"
 
-enum { CALL_CODES = 11, REPLY_NUMBERS = 12 };
+#include <stdbool.h>
 
-/* A call. Fields that its code does not name are zero. */
+enum { REPLY_NUMBERS = 12, ARGUMENTS_MOST = 4, FRAME_MOST = 43, CONFIGURATION_ROOM = 300 };
+
+/* The buffers that calls are lent. */
+typedef enum { LENT_TABLE, LENT_CONFIGURATION, LENT_KINDS } lent_kind;
+
+/* A lent buffer; a null pointer goes with length 0 only. */
 typedef struct {
-    int code;               /* enum ospreyscreen_call */
-    uint64_t n;             /* lay */
-    uint64_t m;             /* lay */
-    uint64_t item;          /* openings, reach */
-    uint64_t station;       /* poll, put, link */
-    uint64_t sort;          /* put */
-    uint64_t state;         /* link */
-    uint64_t value;         /* lay, open write */
-    const uint8_t *config;  /* lay, open change */
+    uint8_t *bytes;
+    size_t len;
+} loan;
+
+/* What an argument can be. Every kind but the configuration is a number. */
+typedef enum {
+    ARGUMENT_N,
+    ARGUMENT_M,
+    ARGUMENT_ITEM,
+    ARGUMENT_STATION,
+    ARGUMENT_SORT,
+    ARGUMENT_STATE,
+    ARGUMENT_VALUE,
+    ARGUMENT_CONFIGURATION,
+    ARGUMENT_KINDS
+} argument;
+
+typedef struct {
+    const char *name;
+    const char *frame_kind; /* what tools/frames calls it */
+    size_t width;           /* bytes in a frame */
+} argument_shape;
+
+extern const argument_shape ARGUMENTS[ARGUMENT_KINDS];
+
+/* A call with its arguments; those that its code does not name are zero. */
+typedef struct {
+    int code; /* enum ospreyscreen_call */
+    uint64_t numbers[ARGUMENT_KINDS];
+    const uint8_t *config;
     size_t config_len;
 } call;
 
+/* An implementation's functions, so that a program can drive any of them. */
 typedef struct {
     const char *name;
     ospreyscreen_reply (*lay)(uint8_t *, size_t, uint64_t, uint64_t, uint64_t, const uint8_t *, size_t);
@@ -45,13 +74,42 @@ typedef struct {
             prefix##reach                                                                      \
     }
 
-/* Makes the call on the table. */
-ospreyscreen_reply call_make(const implementation *with, const call *c, uint8_t *table, size_t len);
+typedef struct {
+    int code;
+    const char *name;
+    int argument_count;
+    argument arguments[ARGUMENTS_MOST]; /* in the frame's order */
+    unsigned numbers;                   /* bit k: it can give number k */
+    int opens;                          /* the kind of round; none if it is no opening */
+    ospreyscreen_reply (*make)(const implementation *, const call *, const loan lent[LENT_KINDS]);
+} call_shape;
 
-/* The name of the call that has the code. */
-const char *call_name(int code);
+enum { CALL_COUNT = 10, CALL_CODES = 1 + CALL_COUNT };
+extern const call_shape CALLS[CALL_COUNT];
+
+/* The row of the code, or a null pointer. */
+const call_shape *call_of(int code);
+
+/* The row of a call whose code is known to be one; ends the program if not. */
+const call_shape *shape_of(const call *c);
+
+/* Makes the call on what is lent. */
+ospreyscreen_reply call_make(const implementation *with, const call *c, const loan lent[LENT_KINDS]);
 
 /* Whether the header says that the call can give the number. */
-int call_can_give(int code, uint64_t number);
+bool call_can_give(const call_shape *shape, uint64_t number);
+
+/* Whether the call has an argument of the kind. */
+bool call_has(const call_shape *shape, argument kind);
+
+/* "Lengths in bytes by code". */
+size_t frame_length(const call_shape *shape);
+
+/* The call in a frame, whose configuration stays where it is; false if the
+ * bytes are no frame. */
+bool call_from_frame(call *c, const uint8_t *frame, size_t len);
+
+/* The frame of a call and its length; 0 if an argument does not fit. */
+size_t call_to_frame(const call *c, uint8_t frame[FRAME_MOST]);
 
 #endif

@@ -1,137 +1,36 @@
 #include "generate.h"
 
+#include "bytes.h"
 #include "configurations.h"
+#include "damage.h"
+#include "draw.h"
+#include "outlook.h"
 
 #include <string.h>
 
-/* Where the open round stands. It only steers what call comes next: a slip
- * here makes poorer lists and no false result. */
-typedef struct {
-    unsigned n;
-    unsigned m;
-    unsigned round;
-    unsigned off;
-    unsigned on;
-    unsigned polled;
-    unsigned data_puts;
-    unsigned configuration_puts;
-    const uint8_t *target;
-    const uint8_t *found; /* the configuration found; null with nothing polled */
-} outlook;
-
-static unsigned two_bytes(const uint8_t *at)
-{
-    return (unsigned)at[0] | (unsigned)at[1] << 8;
-}
-
-static uint64_t eight_bytes(const uint8_t *at)
-{
-    uint64_t number = 0;
-    for (int i = 7; i >= 0; i--) {
-        number = number << 8 | at[i];
-    }
-    return number;
-}
-
-/* The configuration of the highest generation among the polled copies. */
-static const uint8_t *newest_configuration(const outlook *o, const uint8_t *item_copies)
-{
-    const uint8_t *newest = NULL;
-    for (unsigned station = 0; station < o->n; station++) {
-        const uint8_t *copy = item_copies + OSPREYSCREEN_COPY_LENGTH * station;
-        bool polled = (o->polled >> station & 1) != 0;
-        if (polled && (newest == NULL || eight_bytes(copy + 16) > eight_bytes(newest + 16))) {
-            newest = copy;
-        }
-    }
-    return newest == NULL ? NULL : newest + 24;
-}
-
-/* False if the table is too far from sound to steer by. */
-static bool look(outlook *o, const uint8_t *table, size_t len)
-{
-    if (len < OSPREYSCREEN_HEAD_LENGTH) {
-        return false;
-    }
-    o->n = table[0];
-    o->m = table[1];
-    unsigned item = table[5];
-    if (o->n < 1 || o->n > OSPREYSCREEN_STATIONS_MAX || item >= o->m ||
-        len != OSPREYSCREEN_TABLE_LENGTH(o->n, o->m)) {
-        return false;
-    }
-    unsigned all = (1u << o->n) - 1;
-    o->round = table[4];
-    o->off = two_bytes(table + 2) & all;
-    o->on = all & ~o->off;
-    o->polled = two_bytes(table + 6) & all;
-    o->data_puts = two_bytes(table + 8);
-    o->configuration_puts = two_bytes(table + 10);
-    o->target = table + 24;
-    size_t first = OSPREYSCREEN_HEAD_LENGTH + (size_t)OSPREYSCREEN_COPY_LENGTH * item * o->n;
-    o->found = newest_configuration(o, table + first);
-    return true;
-}
-
 /* ---- Arguments ---- */
 
-/* Numbers at and around the ends of what a call takes and of the widths that
- * a conversion could cut them down to. */
-static uint64_t odd_number(rng *r, uint64_t limit)
+/* A valid target for the item. Half of them stay away from all old stations,
+ * or from those of the old write sets, where some are left. */
+static void draw_target(rng *r, const outlook *o, unsigned item, uint8_t *config)
 {
-    static const unsigned widths[] = {8, 16, 32, 63};
-    uint64_t power = UINT64_C(1) << widths[rng_below(r, 4)];
+    const uint8_t *old = outlook_configuration(o, item, all_stations(o->n));
+    unsigned avoided = rng_one_in(r, 2) ? configuration_stations(old)
+                                        : configuration_side(old, WRITE_SIDE);
+    unsigned left = all_stations(o->n) & ~avoided;
 
-    switch (rng_below(r, 7)) {
-    case 0:
-        return limit;
-    case 1:
-        return limit - 1;
-    case 2:
-        return UINT64_MAX;
-    case 3:
-        return power;
-    case 4:
-        return power - 1;
-    case 5: /* in range if it is cut */
-        return power + rng_below(r, limit);
-    default:
-        return rng_any_width(r);
-    }
-}
-
-/* A number below the limit in three of four cases. */
-static uint64_t argument(rng *r, uint64_t limit)
-{
-    return rng_one_in(r, 4) ? odd_number(r, limit) : rng_below(r, limit);
-}
-
-static uint64_t random_value(rng *r)
-{
-    return rng_one_in(r, 4) ? odd_number(r, 1) : rng_next(r);
-}
-
-/* A configuration for n stations, valid if it is to be. */
-static void choose_configuration(generator *g, call *c, unsigned n, bool valid)
-{
-    static const size_t lengths[] = {0, 1, 31, 33, 64};
-    rng *r = &g->source;
-
-    memset(g->config, 0, sizeof g->config);
-    if (rng_one_in(r, 2)) {
-        configuration_majorities(r, n, g->config);
-    } else {
-        configuration_valid(r, n, g->config);
-    }
-    c->config_len = OSPREYSCREEN_CONFIGURATION_LENGTH;
-    if (valid) {
+    if (left == 0 || rng_one_in(r, 2)) {
+        draw_configuration(r, o->n, config);
         return;
     }
-    if (rng_one_in(r, 3)) {
-        c->config_len = lengths[rng_below(r, sizeof lengths / sizeof lengths[0])];
-    } else {
-        configuration_spoil(r, n, g->config);
-    }
+    draw_among(r, left, config);
+}
+
+/* The call's configuration is what stands in the generator's room. */
+static void give_configuration(generator *g, call *c)
+{
+    c->config = g->config;
+    c->config_len = OSPREYSCREEN_CONFIGURATION_LENGTH;
 }
 
 /* A number of stations in range for a configuration to be made with. */
@@ -141,78 +40,101 @@ static unsigned stations_for(uint64_t n)
 }
 
 /* In three of four cases an n and an m with as many copies as the table. */
-static void choose_size(rng *r, call *c, size_t len)
+static void draw_lay_size(rng *r, call *c, size_t len)
 {
     size_t copies = len / OSPREYSCREEN_COPY_LENGTH - (len >= OSPREYSCREEN_COPY_LENGTH);
-    c->n = argument(r, OSPREYSCREEN_STATIONS_MAX + 1);
-    c->m = argument(r, OSPREYSCREEN_ITEMS_MAX + 1);
+    c->numbers[ARGUMENT_N] = draw_below(r, OSPREYSCREEN_STATIONS_MAX + 1);
+    c->numbers[ARGUMENT_M] = draw_below(r, OSPREYSCREEN_ITEMS_MAX + 1);
     if (rng_one_in(r, 4) || copies == 0) {
         return;
     }
+    uint64_t n;
     do {
-        c->n = 1 + rng_below(r, OSPREYSCREEN_STATIONS_MAX);
-    } while (copies % c->n != 0);
-    c->m = copies / c->n;
+        n = 1 + rng_below(r, OSPREYSCREEN_STATIONS_MAX);
+    } while (copies % n != 0);
+    c->numbers[ARGUMENT_N] = n;
+    c->numbers[ARGUMENT_M] = copies / n;
 }
 
-/* Any call with any arguments. */
-static void any_call(generator *g, call *c, uint64_t n, uint64_t m, size_t len)
+/* Any argument of the kind, on a table of n stations and m items. */
+static void draw_argument(generator *g, call *c, argument kind, unsigned n, unsigned m, size_t len)
 {
     rng *r = &g->source;
 
-    c->code = 1 + (int)rng_below(r, CALL_CODES - 1);
-    switch (c->code) {
-    case OSPREYSCREEN_LAY:
-        choose_size(r, c, len);
-        c->value = random_value(r);
-        choose_configuration(g, c, stations_for(c->n), rng_one_in(r, 2));
+    switch (kind) {
+    case ARGUMENT_N: /* and m */
+        draw_lay_size(r, c, len);
         break;
-    case OSPREYSCREEN_OPEN_WRITE:
-        c->value = random_value(r);
-        c->item = argument(r, m);
+    case ARGUMENT_M:
         break;
-    case OSPREYSCREEN_OPEN_CHANGE:
-        c->item = argument(r, m);
-        choose_configuration(g, c, stations_for(n), rng_one_in(r, 2));
+    case ARGUMENT_ITEM:
+        c->numbers[kind] = draw_below(r, m);
         break;
-    case OSPREYSCREEN_OPEN_READ:
-    case OSPREYSCREEN_REACH:
-        c->item = argument(r, m);
+    case ARGUMENT_STATION:
+        c->numbers[kind] = draw_below(r, n);
         break;
-    case OSPREYSCREEN_POLL:
-        c->station = argument(r, n);
+    case ARGUMENT_SORT:
+        c->numbers[kind] = draw_below(r, 3);
         break;
-    case OSPREYSCREEN_PUT:
-        c->station = argument(r, n);
-        c->sort = argument(r, 3);
+    case ARGUMENT_STATE:
+        c->numbers[kind] = draw_below(r, 2);
         break;
-    case OSPREYSCREEN_LINK:
-        c->station = argument(r, n);
-        c->state = argument(r, 2);
+    case ARGUMENT_VALUE:
+        c->numbers[kind] = draw_value(r);
         break;
-    default: /* commit and abandon have no arguments */
+    default:
+        n = c->code == OSPREYSCREEN_LAY ? stations_for(c->numbers[ARGUMENT_N]) : n;
+        give_configuration(g, c);
+        draw_configuration(r, n, g->config);
+        if (rng_one_in(r, 2)) {
+            draw_false(r, n, g->config, c);
+        }
         break;
     }
+}
+
+/* Any call with any arguments. */
+static call any_call(generator *g, unsigned n, unsigned m)
+{
+    const call_shape *shape = &CALLS[rng_below(&g->source, CALL_COUNT)];
+    call c = {.code = shape->code};
+
+    for (int i = 0; i < shape->argument_count; i++) {
+        draw_argument(g, &c, shape->arguments[i], n, m, recorded_table(&g->to)->len);
+    }
+    return c;
 }
 
 /* ---- Calls that fit where the round stands ---- */
 
-static void link_station(call *c, unsigned station, int state)
+static call link_call(unsigned station, int state)
 {
-    c->code = OSPREYSCREEN_LINK;
-    c->station = station;
-    c->state = (uint64_t)state;
+    call c = {.code = OSPREYSCREEN_LINK};
+    c.numbers[ARGUMENT_STATION] = station;
+    c.numbers[ARGUMENT_STATE] = (uint64_t)state;
+    return c;
+}
+
+static call poll_call(unsigned station)
+{
+    call c = {.code = OSPREYSCREEN_POLL};
+    c.numbers[ARGUMENT_STATION] = station;
+    return c;
+}
+
+static call reach_call(uint64_t item)
+{
+    call c = {.code = OSPREYSCREEN_REACH};
+    c.numbers[ARGUMENT_ITEM] = item;
+    return c;
 }
 
 /* A station returns; with none off, the call is a reach. */
-static void return_station(generator *g, const outlook *o, call *c)
+static call return_station(generator *g, const outlook *o)
 {
-    if (o->off == 0) {
-        c->code = OSPREYSCREEN_REACH;
-        c->item = rng_below(&g->source, o->m);
-    } else {
-        link_station(c, station_of(&g->source, o->off), OSPREYSCREEN_LINK_ON);
-    }
+    rng *r = &g->source;
+    return o->off == 0 ? reach_call(rng_below(r, o->m))
+                       : link_call(station_of(r, o->off), OSPREYSCREEN_LINK_ON);
 }
 
 static void choose_write_sets(generator *g)
@@ -221,62 +143,68 @@ static void choose_write_sets(generator *g)
     g->configuration_choice = (unsigned)rng_below(&g->source, OSPREYSCREEN_SETS_PER_SIDE);
 }
 
-static void next_opening(generator *g, const outlook *o, call *c)
+static call next_opening(generator *g, const outlook *o)
 {
     rng *r = &g->source;
     uint64_t kind = rng_below(r, 8);
+    call c = {0};
+    /* The first two items get most rounds, so that their counters grow. */
+    unsigned item = (unsigned)rng_below(r, rng_one_in(r, 3) || o->m < 2 ? o->m : 2);
 
     choose_write_sets(g);
-    /* The first two items get most rounds, so that their counters grow. */
-    c->item = rng_below(r, rng_one_in(r, 3) || o->m < 2 ? o->m : 2);
+    c.numbers[ARGUMENT_ITEM] = item;
     if (kind < 3) {
-        c->code = OSPREYSCREEN_OPEN_READ;
-    } else if (kind < 6) {
-        c->code = OSPREYSCREEN_OPEN_WRITE;
-        c->value = random_value(r);
+        c.code = OSPREYSCREEN_OPEN_READ;
+    } else if (kind < 5) {
+        c.code = OSPREYSCREEN_OPEN_WRITE;
+        c.numbers[ARGUMENT_VALUE] = draw_value(r);
     } else {
-        c->code = OSPREYSCREEN_OPEN_CHANGE;
-        choose_configuration(g, c, o->n, !rng_one_in(r, 10));
+        c.code = OSPREYSCREEN_OPEN_CHANGE;
+        give_configuration(g, &c);
+        draw_target(r, o, item, g->config);
+        if (rng_one_in(r, 10)) {
+            draw_false(r, o->n, g->config, &c);
+        }
     }
+    return c;
 }
 
-static void next_poll(generator *g, const outlook *o, call *c)
+/* A poll that brings the round nearer to being heard, more often than not. */
+static call next_poll(generator *g, const outlook *o)
 {
     rng *r = &g->source;
     unsigned missing = o->on & ~o->polled;
+    const uint8_t *newest = outlook_configuration(o, o->item, all_stations(o->n));
+    unsigned aim = missing & configuration_stations(newest);
 
     if (o->off != 0 && rng_one_in(r, 20)) { /* refused */
-        c->code = OSPREYSCREEN_POLL;
-        c->station = station_of(r, o->off);
-    } else if (missing != 0) {
-        c->code = OSPREYSCREEN_POLL;
-        c->station = station_of(r, missing);
-    } else if (o->off != 0) {
-        return_station(g, o, c);
-    } else {
-        c->code = OSPREYSCREEN_ABANDON;
+        return poll_call(station_of(r, o->off));
     }
+    if (missing != 0) {
+        return poll_call(station_of(r, aim != 0 && !rng_one_in(r, 3) ? aim : missing));
+    }
+    return o->off != 0 ? return_station(g, o) : (call){.code = OSPREYSCREEN_ABANDON};
 }
 
 /* A put at a station of the missing set. If that station is off it returns,
  * or the round turns to other write sets, or the put is refused. */
-static void next_put(generator *g, const outlook *o, call *c, unsigned missing, int sort)
+static call next_put(generator *g, const outlook *o, unsigned missing, int sort)
 {
     rng *r = &g->source;
     unsigned station = station_of(r, missing);
     bool off = (o->off >> station & 1) != 0;
+    call c = {.code = OSPREYSCREEN_PUT};
 
     if (off && rng_one_in(r, 2)) {
-        link_station(c, station, OSPREYSCREEN_LINK_ON);
-        return;
+        return link_call(station, OSPREYSCREEN_LINK_ON);
     }
     if (off && o->on != 0 && !rng_one_in(r, 3)) {
         choose_write_sets(g);
         station = station_of(r, o->on);
     }
-    c->code = OSPREYSCREEN_PUT;
-    c->station = station;
-    c->sort = (uint64_t)sort;
+    c.numbers[ARGUMENT_STATION] = station;
+    c.numbers[ARGUMENT_SORT] = (uint64_t)sort;
+    return c;
 }
 
 /* The stations of the write set aimed at where the put is missing. */
@@ -286,87 +214,378 @@ static unsigned missing_puts(const outlook *o, const uint8_t *config, unsigned c
 }
 
 /* The next put that the round lacks, or its commit. */
-static void next_put_or_commit(generator *g, const outlook *o, call *c)
+static call next_put_or_commit(generator *g, const outlook *o, const uint8_t *found)
 {
     rng *r = &g->source;
-    unsigned data;
-    unsigned config = 0;
-
-    if (o->round == OSPREYSCREEN_ROUND_CHANGE) {
-        data = missing_puts(o, o->target, g->data_choice, o->data_puts);
-        config = missing_puts(o, o->found, g->configuration_choice, o->configuration_puts);
-    } else {
-        data = missing_puts(o, o->found, g->data_choice, o->data_puts);
-    }
+    bool change = o->round == OSPREYSCREEN_ROUND_CHANGE;
+    unsigned data = missing_puts(o, change ? o->target : found, g->data_choice, o->data_puts);
+    unsigned config =
+        change ? missing_puts(o, found, g->configuration_choice, o->configuration_puts) : 0;
     /* Now and then a change has enough puts of one sort only. */
-    bool short_change = (data == 0) != (config == 0) && o->round == OSPREYSCREEN_ROUND_CHANGE;
-    if ((data | config) == 0 || (short_change && rng_one_in(r, 12))) {
-        c->code = OSPREYSCREEN_COMMIT;
-    } else if (config == 0 || (data != 0 && rng_one_in(r, 2))) {
-        next_put(g, o, c, data, OSPREYSCREEN_PUT_DATA);
-    } else {
-        next_put(g, o, c, config, OSPREYSCREEN_PUT_CONFIGURATION);
+    bool short_change = change && (data == 0) != (config == 0) && rng_one_in(r, 12);
+
+    if ((data | config) == 0 || short_change) {
+        return (call){.code = OSPREYSCREEN_COMMIT};
     }
+    if (config == 0 || (data != 0 && rng_one_in(r, 2))) {
+        return next_put(g, o, data, OSPREYSCREEN_PUT_DATA);
+    }
+    return next_put(g, o, config, OSPREYSCREEN_PUT_CONFIGURATION);
 }
 
-static void next_step(generator *g, const outlook *o, call *c)
+static call next_step(generator *g, const outlook *o)
 {
     rng *r = &g->source;
+    const uint8_t *found = outlook_configuration(o, o->item, o->polled);
 
     if (o->round == OSPREYSCREEN_ROUND_NONE) {
-        next_opening(g, o, c);
-    } else if (rng_one_in(r, 50)) {
-        c->code = OSPREYSCREEN_ABANDON;
-    } else if (o->found == NULL || !configuration_readable(o->found, o->polled)) {
-        next_poll(g, o, c);
-    } else if (rng_one_in(r, 12)) { /* more than a read set */
-        next_poll(g, o, c);
-    } else if (o->round == OSPREYSCREEN_ROUND_READ) {
-        c->code = OSPREYSCREEN_COMMIT;
-    } else {
-        next_put_or_commit(g, o, c);
+        return next_opening(g, o);
     }
+    if (rng_one_in(r, g->last == OSPREYSCREEN_SPENT ? 3 : 50)) {
+        return (call){.code = OSPREYSCREEN_ABANDON};
+    }
+    if (rng_one_in(r, 40)) { /* a put of either sort, in a read too */
+        int sort = rng_one_in(r, 2) ? OSPREYSCREEN_PUT_DATA : OSPREYSCREEN_PUT_CONFIGURATION;
+        return next_put(g, o, all_stations(o->n), sort);
+    }
+    if (found == NULL || !configuration_holds(found, READ_SIDE, o->polled) || rng_one_in(r, 12)) {
+        return next_poll(g, o);
+    }
+    return o->round == OSPREYSCREEN_ROUND_READ ? (call){.code = OSPREYSCREEN_COMMIT}
+                                               : next_put_or_commit(g, o, found);
 }
 
-call generate_lay(generator *g, unsigned n, unsigned m)
+call generate_call(generator *g)
 {
-    call c = {.code = OSPREYSCREEN_LAY, .n = n, .m = m, .value = random_value(&g->source)};
-    choose_configuration(g, &c, n, true);
-    return c;
-}
-
-call generate_call(generator *g, const uint8_t *table, size_t len)
-{
-    call c = {0};
-    outlook o;
     rng *r = &g->source;
+    const loan *table = recorded_table(&g->to);
+    outlook o;
 
-    if (!look(&o, table, len)) {
-        any_call(g, &c, OSPREYSCREEN_STATIONS_MAX, OSPREYSCREEN_ITEMS_MAX, len);
-        return c;
+    if (!outlook_read(&o, table->bytes, table->len)) {
+        return any_call(g, OSPREYSCREEN_STATIONS_MAX, OSPREYSCREEN_ITEMS_MAX);
+    }
+    if (rng_one_in(r, g->drops)) {
+        return o.on == 0 || rng_one_in(r, 10)
+                   ? link_call((unsigned)rng_below(r, o.n), OSPREYSCREEN_LINK_OFF)
+                   : link_call(station_of(r, o.on), OSPREYSCREEN_LINK_OFF);
     }
     switch (rng_below(r, 60)) {
     case 0:
     case 1:
     case 2:
     case 3:
-        any_call(g, &c, o.n, o.m, len);
-        break;
+        return any_call(g, o.n, o.m);
     case 4:
     case 5:
-        link_station(&c, (unsigned)rng_below(r, o.n), OSPREYSCREEN_LINK_OFF);
-        break;
     case 6:
+        return return_station(g, &o);
     case 7:
     case 8:
-        return_station(g, &o, &c);
-        break;
+        return reach_call(rng_below(r, o.m));
     case 9: /* a commit before its time */
-        c.code = OSPREYSCREEN_COMMIT;
+        return (call){.code = OSPREYSCREEN_COMMIT};
+    default:
+        return next_step(g, &o);
+    }
+}
+
+void generate_step(generator *g, const call *c)
+{
+    g->last = record_call(&g->to, c, draw_place(&g->source)).number;
+}
+
+call generate_lay(generator *g, unsigned n, unsigned m)
+{
+    call c = {.code = OSPREYSCREEN_LAY};
+
+    c.numbers[ARGUMENT_N] = n;
+    c.numbers[ARGUMENT_M] = m;
+    c.numbers[ARGUMENT_VALUE] = draw_value(&g->source);
+    give_configuration(g, &c);
+    draw_configuration(&g->source, n, g->config);
+    return c;
+}
+
+call generate_any_lay(generator *g)
+{
+    unsigned n;
+    unsigned m;
+
+    draw_size(&g->source, &n, &m);
+    return generate_lay(g, n, m);
+}
+
+/* Records a lay that replies 0, or the next call. */
+static void step_lay(generator *g, unsigned n, unsigned m)
+{
+    call c = generate_lay(g, n, m);
+    generate_step(g, &c);
+}
+
+static void step_call(generator *g)
+{
+    call c = generate_call(g);
+    generate_step(g, &c);
+}
+
+/* ---- What is done to the table between calls ---- */
+
+/* A table changed by hand: the steps set all of it. */
+typedef struct {
+    uint8_t bytes[OSPREYSCREEN_TABLE_LENGTH_MAX];
+    size_t len;
+} by_hand;
+
+static void take_table(const generator *g, by_hand *b)
+{
+    const loan *table = recorded_table(&g->to);
+    b->len = table->len;
+    memcpy(b->bytes, table->bytes, table->len);
+}
+
+static void set_table(generator *g, const by_hand *b)
+{
+    record_bytes(&g->to, 0, b->bytes, b->len);
+}
+
+/* Breaks one clause of soundness, makes some calls, and mends the table. */
+static void break_a_clause(generator *g)
+{
+    rng *r = &g->source;
+    by_hand before;
+    by_hand broken;
+
+    take_table(g, &before);
+    broken = before;
+    if (ref_broken(before.bytes, before.len) != 0 ||
+        !damage_clause(r, broken.bytes, (broken_clause)rng_below(r, BROKEN_CLAUSES))) {
+        return;
+    }
+    set_table(g, &broken);
+    for (uint64_t calls = 1 + rng_below(r, 3); calls > 0; calls--) {
+        call c = any_call(g, before.bytes[0], before.bytes[1]);
+        generate_step(g, &c);
+    }
+    set_table(g, &before);
+}
+
+/* Damage of any sort; a table beyond use is laid again before long. */
+static void damage(generator *g, unsigned n, unsigned m)
+{
+    rng *r = &g->source;
+    by_hand b;
+
+    take_table(g, &b);
+    bool sound = ref_broken(b.bytes, b.len) == 0;
+    if (!sound && rng_one_in(r, 10)) {
+        step_lay(g, n, m);
+    } else if (sound && rng_one_in(r, 6)) {
+        break_a_clause(g);
+    } else if (rng_one_in(r, 60)) {
+        damage_anything(r, b.bytes, b.len);
+        set_table(g, &b);
+    }
+}
+
+/* Ties and counters at the ends of their range; the table stays sound. */
+static void tie(generator *g)
+{
+    rng *r = &g->source;
+    by_hand b;
+
+    take_table(g, &b);
+    if (ref_broken(b.bytes, b.len) != 0 || !rng_one_in(r, 20)) {
+        return;
+    }
+    if (rng_one_in(r, 4)) {
+        damage_counters(r, b.bytes, b.len);
+    } else {
+        damage_tie(r, b.bytes, b.bytes[5]);
+    }
+    set_table(g, &b);
+}
+
+/* A number that the next one or two raises take over the end of one to eight
+ * bytes, or to the end of all. */
+static uint64_t near_an_end(rng *r)
+{
+    static const unsigned widths[] = {8, 16, 32, 63, 64, 64};
+    unsigned width = widths[rng_below(r, 6)];
+    uint64_t ones = width == 64 ? UINT64_MAX : (UINT64_C(1) << width) - 1;
+    uint64_t above = width == 64 || rng_one_in(r, 2) ? 0 : rng_any_width(r) & ~ones;
+    return (above | ones) - rng_below(r, 4);
+}
+
+/* Raises a counter of an item such that the highest comes near an end. */
+static void raise_a_counter(generator *g)
+{
+    rng *r = &g->source;
+    const loan *table = recorded_table(&g->to);
+    counter which = rng_one_in(r, 2) ? COUNTER_VERSION : COUNTER_GENERATION;
+    uint64_t goal = near_an_end(r);
+    outlook o;
+
+    if (!rng_one_in(r, 40) || !outlook_read(&o, table->bytes, table->len)) {
+        return;
+    }
+    unsigned item = (unsigned)rng_below(r, o.m);
+    uint64_t highest = get_number(outlook_newest(&o, item, all_stations(o.n), which) + which, 8);
+    if (highest < goal) {
+        record_raise(&g->to, which, item, goal - highest);
+    }
+}
+
+/* ---- Lists ---- */
+
+typedef enum { UNDISTURBED, RAISED, DAMAGED, TIED, WRONG_LENGTH, WRONG_SIZE } disturbance;
+
+static disturbance choose_disturbance(rng *r)
+{
+    static const disturbance one_of[20] = {
+        UNDISTURBED, UNDISTURBED, UNDISTURBED, UNDISTURBED, UNDISTURBED, UNDISTURBED, UNDISTURBED,
+        RAISED,      RAISED,      RAISED,      DAMAGED,     DAMAGED,     DAMAGED,     DAMAGED,
+        TIED,        TIED,        TIED,        WRONG_LENGTH, WRONG_LENGTH, WRONG_SIZE};
+    return one_of[rng_below(r, 20)];
+}
+
+static void disturb(generator *g, disturbance how, unsigned n, unsigned m)
+{
+    switch (how) {
+    case RAISED:
+        raise_a_counter(g);
+        break;
+    case DAMAGED:
+        damage(g, n, m);
+        break;
+    case TIED:
+        tie(g);
         break;
     default:
-        next_step(g, &o, &c);
         break;
     }
-    return c;
+}
+
+/* Lists of one call to some hundred, and now and then of some thousand; the
+ * longer, the more stations a round has to go to. */
+static uint64_t choose_calls(rng *r, unsigned n, unsigned m)
+{
+    uint64_t most = rng_one_in(r, 20) && n * m < 100 ? 300 : rng_one_in(r, 3) ? 3 : 40;
+    return 1 + rng_below(r, most * (3 + n));
+}
+
+/* The table's bytes before the first call, of any content. */
+static void fill_table(generator *g, size_t len)
+{
+    uint8_t bytes[OSPREYSCREEN_TABLE_LENGTH_MAX];
+    for (size_t i = 0; i < len; i++) {
+        bytes[i] = (uint8_t)rng_next(&g->source);
+    }
+    record_bytes(&g->to, 0, bytes, len);
+}
+
+static void generate_rounds(generator *g, disturbance how, unsigned n, unsigned m)
+{
+    rng *r = &g->source;
+    size_t len = OSPREYSCREEN_TABLE_LENGTH(n, m);
+
+    record_table(&g->to, len, draw_place(r), false);
+    fill_table(g, len);
+    step_lay(g, n, m);
+    for (uint64_t calls = choose_calls(r, n, m); calls > 1; calls--) {
+        if (!recorder_has_room(&g->to)) {
+            return;
+        }
+        disturb(g, how, n, m);
+        step_call(g);
+    }
+}
+
+/* A sound table under a length that does not fit it, and calls on it. */
+static void generate_wrong_length(generator *g, unsigned n, unsigned m)
+{
+    rng *r = &g->source;
+    size_t fit = OSPREYSCREEN_TABLE_LENGTH(n, m);
+    size_t lengths[] = {0,       1,       55,       56,          57,
+                        111,     fit - 56, fit - 1, fit + 1,     fit + 56,
+                        fit + 256, fit + 65536, rng_below(r, fit)};
+    size_t len = lengths[rng_below(r, sizeof lengths / sizeof lengths[0])];
+    uint8_t bytes[OSPREYSCREEN_TABLE_LENGTH_MAX];
+
+    record_table(&g->to, len, draw_place(r), rng_one_in(r, 2));
+    damage_fresh(r, bytes, n, m);
+    record_bytes(&g->to, 0, bytes, len < fit ? len : fit);
+    for (int calls = 0; calls < 20; calls++) {
+        call c = any_call(g, n, m);
+        generate_step(g, &c);
+    }
+}
+
+/* A table whose n or m no table has, of the length that would fit. */
+static void generate_wrong_size(generator *g)
+{
+    enum { FEW = 3, SIZE_MOST = 255 };
+    rng *r = &g->source;
+    unsigned n = 1 + (unsigned)rng_below(r, FEW);
+    unsigned m = 1 + (unsigned)rng_below(r, FEW);
+    uint8_t bytes[OSPREYSCREEN_TABLE_LENGTH(SIZE_MOST, FEW)];
+
+    switch (rng_below(r, 6)) {
+    case 0:
+        n = 0;
+        break;
+    case 1:
+        m = 0;
+        break;
+    case 2:
+        n = OSPREYSCREEN_STATIONS_MAX + 1;
+        break;
+    case 3:
+        m = OSPREYSCREEN_ITEMS_MAX + 1;
+        break;
+    case 4:
+        n = SIZE_MOST - (unsigned)rng_below(r, SIZE_MOST - OSPREYSCREEN_STATIONS_MAX);
+        break;
+    default:
+        m = SIZE_MOST - (unsigned)rng_below(r, SIZE_MOST - OSPREYSCREEN_ITEMS_MAX);
+        break;
+    }
+    size_t len = OSPREYSCREEN_TABLE_LENGTH(n, m);
+    record_table(&g->to, len, draw_place(r), false);
+    damage_fresh(r, bytes, n, m);
+    record_bytes(&g->to, 0, bytes, len);
+    for (int calls = 0; calls < 10; calls++) {
+        call c = any_call(g, stations_for(n), m == 0 ? 1 : m);
+        generate_step(g, &c);
+    }
+}
+
+rng generate_source(uint64_t seed, uint64_t number)
+{
+    rng of_run = {seed};
+    return (rng){rng_next(&of_run) + number};
+}
+
+generator generator_make(list *into)
+{
+    return (generator){.to = recorder_make(into)};
+}
+
+void generate_list(generator *g, uint64_t seed, uint64_t number)
+{
+    static const unsigned drops[] = {4, 15, 30, 100};
+    rng *r = &g->source;
+    unsigned n;
+    unsigned m;
+
+    *r = generate_source(seed, number);
+    draw_size(r, &n, &m);
+    g->drops = drops[rng_below(r, 4)];
+    disturbance how = choose_disturbance(r);
+    if (how == WRONG_LENGTH) {
+        generate_wrong_length(g, n, m);
+    } else if (how == WRONG_SIZE) {
+        generate_wrong_size(g);
+    } else {
+        generate_rounds(g, how, n, m);
+    }
 }

@@ -1,29 +1,45 @@
 /*
- * Random calls for the differential test. Most of them take the open round a
- * step towards its commit; drops, returns, abandoned rounds and calls with
- * arguments out of range come between.
+ * Random lists for the differential test. Most calls take the open round a
+ * step towards its commit; drops, returns, abandoned rounds, changes that
+ * move the quorums away and calls with arguments out of range come between.
+ * Some lists have their tables damaged, tied or raised by hand on the way.
  */
 #ifndef GENERATE_H
 #define GENERATE_H
 
-#include "calls.h"
+#include "recorder.h"
 #include "rng.h"
 
-enum { CONFIGURATION_ROOM = 2 * OSPREYSCREEN_CONFIGURATION_LENGTH };
-
 typedef struct {
+    recorder to;
     rng source;
     /* The write sets that the puts of the round aim at. */
     unsigned data_choice;
     unsigned configuration_choice;
-    /* The bytes of the last call's configuration; the call has their length. */
+    /* How often stations drop: once in so many calls. */
+    unsigned drops;
+    uint64_t last; /* the number of the last reply */
+    /* The bytes of the last call's configuration. */
     uint8_t config[CONFIGURATION_ROOM];
 } generator;
 
-/* A lay of a table of n stations and m items that replies 0. */
-call generate_lay(generator *g, unsigned n, unsigned m);
+generator generator_make(list *into);
 
-/* The next call on the table. */
-call generate_call(generator *g, const uint8_t *table, size_t len);
+/* Records list so-and-so of the run with this seed. */
+void generate_list(generator *g, uint64_t seed, uint64_t number);
+
+/* A lay of a table of n stations and m items that replies 0, where the
+ * length fits; or of any size. */
+call generate_lay(generator *g, unsigned n, unsigned m);
+call generate_any_lay(generator *g);
+
+/* The next call, chosen by the table. */
+call generate_call(generator *g);
+
+/* Records a call; it is lent its configuration at any place. */
+void generate_step(generator *g, const call *c);
+
+/* The random numbers of a list of a run. */
+rng generate_source(uint64_t seed, uint64_t number);
 
 #endif

@@ -1,170 +1,248 @@
 # The host side: the C header, the independent tests and the benchmark.
 #
 #   make -f tests/host/host.mk build        all programs
-#   make -f tests/host/host.mk test-host    short tests, under a minute
-#   make -f tests/host/host.mk soak         10 million calls, 10 million frame lines
-#   make -f tests/host/host.mk bench        times, as Markdown, CSV and SVG
+#   make -f tests/host/host.mk test-host    short tests, under 90 seconds
+#   make -f tests/host/host.mk test-faults  the short tests of calls against each planted fault
+#   make -f tests/host/host.mk soak         10 million calls, 10 million frame lines, from a new seed
+#   make -f tests/host/host.mk season       seasons of one house, 10^9 calls, from a new seed
+#   make -f tests/host/host.mk bench        times, as Markdown, CSV and SVG, in build/host/bench
+#   make -f tests/host/host.mk clean
 #
 # LIB=path/to/libospreyscreen.a  the library; without it the optimised C of
 #                                bench/ stands in under the library's names
 # RUNNER=path/to/frame_runner    the frame runner; without it the plain C
 #                                runner of bench/ stands in
-# CALLS, SEED, LINES, SAMPLES    how much is tested and timed, and from where
+# CALLS, FRAME_LINES, SAMPLES    how much is tested and timed
+# SEED                           where random tests begin
+# FROM                           the season to begin with
+# FAULT_SEEDS                    the seeds that planted faults are tried with
+# CC, CXX, CPPFLAGS, CFLAGS, CXXFLAGS, LDFLAGS, LDLIBS as usual; the flags come after those of this file
 
-ifeq ($(origin CC),default)
+ifneq ($(filter default undefined,$(origin CC)),)
 CC := gcc
 endif
+ifneq ($(filter default undefined,$(origin CXX)),)
+CXX := g++
+endif
 LIB ?=
-LDLIBS ?=
-CALLS ?= 200000
-LINES ?= 100000
+RUNNER ?=
 SAMPLES ?= 401
 RUNS := 1 2 3 4 5 6 7 8 9
-SEED ?= 1
 
-# What is linked with the library and without it stands apart.
-OUT := build/host/$(if $(LIB),library,standin)
-PLAIN := $(OUT)/plain
-CHECKED := $(OUT)/checked
-RUNNER ?= $(PLAIN)/runner
+FROM ?= 0
+FAULT_SEEDS ?= 1,2,3,4,5
+
+# Short tests, soak and seasons differ where nothing is given.
+ifeq ($(CALLS),)
+CALLS := 200000
+soak: CALLS := 10000000
+season: CALLS := 1000000000
+endif
+ifeq ($(FRAME_LINES),)
+FRAME_LINES := 100000
+soak: FRAME_LINES := 10000000
+endif
+ifeq ($(SEED),)
+SEED := 1
+soak season: SEED := $(strip $(shell od -An -N4 -tu4 /dev/urandom))
+endif
 
 WARNINGS := -Wall -Wextra -Wpedantic -Wconversion -Wshadow -Werror
-COMPILE := $(CC) -std=c11 $(WARNINGS) -Iinclude -Itests/host -Ibench -MMD -MP
 SANITIZE := -fsanitize=address,undefined -fno-sanitize-recover=all -fno-omit-frame-pointer
+C11 := -std=c11 $(WARNINGS) -Iinclude
 
-DIFFERENTIAL := differential book calls configurations damage generate guard optimised reference
-BENCH := bench calls configurations optimised
-EXAMPLES := first_reading season
-PROGRAMS := differential runner ref_runner random_frames cuts bench throughput format_dump
+# A text as one word of the shell, and what stands for a text in the name of a folder.
+quote = '$(subst ','\'',$(1))'
+HASH := sha256sum | cut -c1-16
 
-vpath %.c tests/host bench examples
+# What is built stands under what it is built with: objects under the compilers, their flags and this
+# file, programs under the library's bytes too. So nothing is run that was built with anything else,
+# whatever the times of the files say.
+GIVEN := CC CXX CPPFLAGS CFLAGS CXXFLAGS LDFLAGS LDLIBS WARNINGS SANITIZE
+TOOLS_KEY := $(shell { $(CC) --version; $(CXX) --version; \
+    readlink -f "$$(command -v $(firstword $(CC)))" "$$(command -v $(firstword $(CXX)))"; \
+    printf '%s\n' $(foreach name,$(GIVEN),$(call quote,$($(name)))); \
+    cat tests/host/host.mk; } 2>&1 | $(HASH))
+LIB_HASH := $(if $(LIB),$(shell test -f $(call quote,$(LIB)) && cat $(call quote,$(LIB)) | $(HASH)),standin)
+LIB_KEY := $(or $(LIB_HASH),missing)
+OBJ := build/host/$(TOOLS_KEY)
+BIN := $(OBJ)/$(LIB_KEY)
 
-.PHONY: build test-host soak bench clean test-header test-calls test-frames test-tool test-example \
-    test-readme test-docs
+# The library under its key, or the objects that stand in for it.
+ARCHIVE := $(BIN)/libospreyscreen.a
+LIBRARY := $(if $(LIB),$(ARCHIVE),standin.o optimised.o)
+PLAIN_LIBRARY := $(LIBRARY:%.o=$(OBJ)/plain/%.o)
+THE_RUNNER := $(call quote,$(or $(RUNNER),$(BIN)/plain/runner))
+
+# The programs, one line of objects for each. Those of the second list are built with the sanitizers too.
+PROGRAMS := differential runner ref_runner random_frames print_calls cuts bench clean_frames throughput format_dump
+CHECKED_PROGRAMS := differential runner ref_runner
+EXAMPLES := examples/first_reading examples/season
+
+LISTS := calls.o configurations.o damage.o draw.o generate.o guard.o lists.o outlook.o recorder.o reference.o runs.o
+DIFFERENTIAL := differential.o book.o directed.o optimised.o options.o season.o tally.o trial.o $(LISTS)
+OBJECTS_differential := $(DIFFERENTIAL) $(LIBRARY)
+OBJECTS_bench := bench.o calls.o configurations.o optimised.o options.o $(LIBRARY)
+OBJECTS_clean_frames := clean_frames.o calls.o configurations.o options.o
+OBJECTS_format_dump := format_dump.o $(LIBRARY)
+OBJECTS_runner := runner.o calls.o optimised.o
+OBJECTS_ref_runner := ref_runner.o calls.o configurations.o options.o outlook.o reference.o tally.o
+OBJECTS_random_frames := random_frames.o options.o $(LISTS)
+OBJECTS_print_calls := print_calls.o calls.o
+OBJECTS_cuts := cuts.o
+OBJECTS_throughput := throughput.o
+OBJECTS_examples/first_reading := examples/first_reading.o $(LIBRARY)
+OBJECTS_examples/season := examples/season.o $(LIBRARY)
+
+PLAIN := $(PROGRAMS:%=$(BIN)/plain/%) $(EXAMPLES:%=$(BIN)/plain/%)
+CHECKED := $(CHECKED_PROGRAMS:%=$(BIN)/checked/%) $(EXAMPLES:%=$(BIN)/checked/%)
+CXX_EXAMPLES := $(EXAMPLES:%=$(BIN)/c++17/%) $(EXAMPLES:%=$(BIN)/c++20/%)
+
+TESTS := test-header test-archive test-directed test-calls test-frames test-tool test-make test-example test-readme \
+    test-docs
+.PHONY: build test-host test-faults soak season bench clean $(TESTS)
 .DELETE_ON_ERROR:
 
-build: $(PROGRAMS:%=$(PLAIN)/%) $(CHECKED)/differential $(CHECKED)/runner
+build: $(PLAIN) $(CHECKED)
 
-$(PLAIN)/%.o: %.c | $(PLAIN)
-	$(COMPILE) -O3 -c $< -o $@
+vpath %.c tests/host bench
 
-$(CHECKED)/%.o: %.c | $(CHECKED)
-	$(COMPILE) -O1 -g $(SANITIZE) -c $< -o $@
+$(OBJ)/plain/%.o: %.c
+	@mkdir -p $(@D)
+	$(CC) $(C11) -Itests/host -Ibench -MMD -MP -O3 $(CPPFLAGS) $(CFLAGS) -c $< -o $@
 
-$(PLAIN) $(CHECKED):
-	mkdir -p $@
+$(OBJ)/checked/%.o: %.c
+	@mkdir -p $(@D)
+	$(CC) $(C11) -Itests/host -Ibench -MMD -MP -O1 -g $(SANITIZE) $(CPPFLAGS) $(CFLAGS) -c $< -o $@
 
-# The library, or what stands in for it, in either kind of build.
-PLAIN_LIB := $(if $(LIB),$(LIB),$(PLAIN)/standin.o)
-CHECKED_LIB := $(if $(LIB),$(LIB),$(CHECKED)/standin.o)
-PLAIN_LINK := $(PLAIN_LIB) $(if $(LIB),,$(PLAIN)/optimised.o)
-CHECKED_LINK := $(CHECKED_LIB) $(if $(LIB),,$(CHECKED)/optimised.o)
+# The key is that of the bytes at the start of this make; the copy has to have it still.
+$(ARCHIVE):
+	@test -f $(call quote,$(LIB)) || { echo "no library at" $(call quote,$(LIB)) >&2; exit 1; }
+	@mkdir -p $(@D)
+	cp $(call quote,$(LIB)) $@
+	@test "$$(cat $@ | $(HASH))" = $(LIB_KEY) || { echo "the library changed meanwhile" >&2; exit 1; }
 
-$(PLAIN)/differential: $(DIFFERENTIAL:%=$(PLAIN)/%.o) $(PLAIN_LIB)
-$(PLAIN)/bench: $(BENCH:%=$(PLAIN)/%.o) $(PLAIN_LIB)
-$(PLAIN)/format_dump: $(PLAIN)/format_dump.o $(PLAIN_LINK)
-$(PLAIN)/runner: $(PLAIN)/runner.o $(PLAIN)/optimised.o
-$(PLAIN)/ref_runner: $(PLAIN)/ref_runner.o $(PLAIN)/reference.o
-$(PLAIN)/random_frames: $(PLAIN)/random_frames.o $(PLAIN)/configurations.o
-$(PLAIN)/cuts: $(PLAIN)/cuts.o
-$(PLAIN)/throughput: $(PLAIN)/throughput.o
-$(PROGRAMS:%=$(PLAIN)/%):
-	$(CC) $^ $(LDLIBS) -o $@
+# The objects of a program, in either kind of build.
+define objects_of
+$(BIN)/plain/$(1): $(OBJECTS_$(1):%.o=$(OBJ)/plain/%.o)
+$(BIN)/checked/$(1): $(OBJECTS_$(1):%.o=$(OBJ)/checked/%.o)
+endef
+$(foreach program,$(PROGRAMS) $(EXAMPLES),$(eval $(call objects_of,$(program))))
 
-$(CHECKED)/differential: $(DIFFERENTIAL:%=$(CHECKED)/%.o) $(CHECKED_LIB)
-$(CHECKED)/runner: $(CHECKED)/runner.o $(CHECKED)/optimised.o
-$(CHECKED)/differential $(CHECKED)/runner:
-	$(CC) $(SANITIZE) $^ $(LDLIBS) -o $@
+$(PLAIN):
+	@mkdir -p $(@D)
+	$(CC) $(CFLAGS) $(LDFLAGS) $^ $(LDLIBS) -o $@
 
-# The examples as C, as C with the sanitizers, and as C++ of two standards.
-C_EXAMPLES := $(EXAMPLES:%=$(PLAIN)/c11/%)
-CHECKED_EXAMPLES := $(EXAMPLES:%=$(CHECKED)/c11/%)
-CXX_EXAMPLES := $(EXAMPLES:%=$(PLAIN)/c++17/%) $(EXAMPLES:%=$(PLAIN)/c++20/%)
+$(CHECKED):
+	@mkdir -p $(@D)
+	$(CC) $(SANITIZE) $(CFLAGS) $(LDFLAGS) $^ $(LDLIBS) -o $@
 
-$(C_EXAMPLES): $(PLAIN)/c11/%: $(PLAIN)/%.o $(PLAIN_LINK)
-	mkdir -p $(@D)
-	$(CC) $^ $(LDLIBS) -o $@
+# The examples as C++; the first folder's name is the standard's.
+$(CXX_EXAMPLES): $(EXAMPLES:%=%.c) include/ospreyscreen.h $(PLAIN_LIBRARY)
+	@mkdir -p $(@D)
+	$(CXX) -x c++ -std=$(notdir $(patsubst %/,%,$(dir $(@D)))) $(WARNINGS) -Iinclude $(CPPFLAGS) $(CXXFLAGS) \
+	    $(LDFLAGS) examples/$(@F).c -x none $(PLAIN_LIBRARY) $(LDLIBS) -o $@
 
-$(CHECKED_EXAMPLES): $(CHECKED)/c11/%: $(CHECKED)/%.o $(CHECKED_LINK)
-	mkdir -p $(@D)
-	$(CC) $(SANITIZE) $^ $(LDLIBS) -o $@
-
-# The directory's name is the standard's.
-$(CXX_EXAMPLES): $(EXAMPLES:%=examples/%.c) include/ospreyscreen.h $(PLAIN_LINK)
-	mkdir -p $(@D)
-	$(CXX) -x c++ -std=$(notdir $(@D)) $(WARNINGS) -Iinclude examples/$(@F).c \
-	    -x none $(PLAIN_LINK) $(LDLIBS) -o $@
-
-test-host: test-header test-calls test-frames test-tool test-example test-readme test-docs
+test-host: $(TESTS)
 
 # The header alone, as each language that firmware is written in.
+HEADER := include/ospreyscreen.h
 test-header:
-	$(CC) -x c -std=c99 $(WARNINGS) -fsyntax-only include/ospreyscreen.h
-	$(CC) -x c -std=c11 $(WARNINGS) -fsyntax-only include/ospreyscreen.h
-	$(CXX) -x c++ -std=c++17 $(WARNINGS) -Wold-style-cast -fsyntax-only include/ospreyscreen.h
+	$(CC) -x c -std=c99 $(WARNINGS) $(CPPFLAGS) $(CFLAGS) -fsyntax-only $(HEADER)
+	$(CC) -x c -std=c11 $(WARNINGS) $(CPPFLAGS) $(CFLAGS) -fsyntax-only $(HEADER)
+	$(CXX) -x c++ -std=c++17 $(WARNINGS) -Wold-style-cast $(CPPFLAGS) $(CXXFLAGS) -fsyntax-only $(HEADER)
 
-# Both builds, and the optimised C as well where the library is linked.
+# What the archive calls, exports and holds; without one, only that the test refuses bad ones.
+test-archive: $(if $(LIB),$(ARCHIVE))
+	python3 tests/host/test_archive.py $(if $(LIB),$(ARCHIVE) $(HEADER))
+
+# What random lists meet seldom.
+test-directed: build
+	@echo "$@: seed $(SEED)"
+	$(BIN)/plain/differential --form directed --seed $(SEED)
+
+# Random lists in both builds, and on the optimised C as well where the library is linked.
 test-calls: build
-	$(PLAIN)/differential --calls $(CALLS) --seed $(SEED)
-	$(CHECKED)/differential --calls $(CALLS) --seed $(SEED)
-	$(if $(LIB),$(CHECKED)/differential --calls $(CALLS) --seed $(SEED) --of optimised)
+	@echo "$@: seed $(SEED)"
+	$(BIN)/plain/differential --form random --calls $(CALLS) --seed $(SEED)
+	$(BIN)/checked/differential --form random --calls $(CALLS) --seed $(SEED)
+	$(if $(LIB),$(BIN)/checked/differential --form random --calls $(CALLS) --seed $(SEED) --of optimised)
+
+# Each fault in a copy of the reference, which stands in for the library.
+test-faults: $(DIFFERENTIAL:%=$(OBJ)/plain/%)
+	python3 tests/host/test_faults.py --cc $(call quote,$(CC)) --cflags $(call quote,$(C11) $(CPPFLAGS) $(CFLAGS)) \
+	    --ldflags $(call quote,$(LDFLAGS)) --objects $(call quote,$^) --out $(OBJ)/faults \
+	    --seeds $(call quote,$(FAULT_SEEDS)) --calls $(CALLS)
+
+season: build
+	@echo "$@: seed $(SEED)"
+	$(BIN)/plain/differential --form season --calls $(CALLS) --seed $(SEED) --from $(FROM)
 
 # The runner against the reference's runner, its input whole and cut.
-FRAMES := $(OUT)/frames
+FRAMES := $(BIN)/frames
 test-frames: build
-	python3 tests/host/test_runner.py $(RUNNER)
-	$(PLAIN)/random_frames --lines $(LINES) --seed $(SEED) > $(FRAMES).hex
-	$(PLAIN)/ref_runner < $(FRAMES).hex > $(FRAMES).expected
-	$(CHECKED)/runner < $(FRAMES).hex > $(FRAMES).got
+	@echo "$@: seed $(SEED)"
+	python3 tests/host/test_runner.py $(THE_RUNNER)
+	$(BIN)/plain/random_frames --lines $(FRAME_LINES) --seed $(SEED) > $(FRAMES).hex
+	$(BIN)/plain/ref_runner --met < $(FRAMES).hex > $(FRAMES).expected
+	$(BIN)/checked/runner < $(FRAMES).hex > $(FRAMES).got
 	cmp $(FRAMES).got $(FRAMES).expected
-	$(RUNNER) < $(FRAMES).hex > $(FRAMES).got
+	$(THE_RUNNER) < $(FRAMES).hex > $(FRAMES).got
 	cmp $(FRAMES).got $(FRAMES).expected
 	for size in 1 7 65536; do \
-	    $(PLAIN)/cuts $$size $(RUNNER) < $(FRAMES).hex > $(FRAMES).got && \
+	    $(BIN)/plain/cuts $$size $(THE_RUNNER) < $(FRAMES).hex > $(FRAMES).got && \
 	    cmp $(FRAMES).got $(FRAMES).expected || exit 1; \
 	done
+	rm $(FRAMES).hex $(FRAMES).expected $(FRAMES).got
 
-test-tool:
-	python3 tests/host/test_frames_tool.py
+test-tool: $(BIN)/plain/print_calls
+	python3 tests/host/test_frames_tool.py $<
 	python3 tests/host/test_stack_tool.py $(CC)
 
-# What each example prints stands beside it.
-EXAMPLE_PROGRAMS := $(C_EXAMPLES) $(CHECKED_EXAMPLES) $(CXX_EXAMPLES)
+# These makefiles, in a copy of the tree.
+test-make:
+	python3 tests/host/test_make.py
+
+# What each example prints stands beside it: as C, with the sanitizers, as C++ of two standards.
+EXAMPLE_PROGRAMS := $(EXAMPLES:%=$(BIN)/plain/%) $(EXAMPLES:%=$(BIN)/checked/%) $(CXX_EXAMPLES)
 test-example: $(EXAMPLE_PROGRAMS)
 	for program in $(EXAMPLE_PROGRAMS); do \
-	    $$program > $(OUT)/example.out && \
-	    cmp $(OUT)/example.out examples/$$(basename $$program).expected || exit 1; \
+	    $$program > $(BIN)/example.out && \
+	    cmp $(BIN)/example.out examples/$$(basename $$program).expected || exit 1; \
 	done
 
 # The README's C snippet, as C and as C++.
-SNIPPET := $(OUT)/snippet
-test-readme: $(PLAIN_LINK) | $(PLAIN)
+SNIPPET := $(BIN)/snippet
+test-readme: $(PLAIN_LIBRARY)
+	@mkdir -p $(BIN)
 	python3 tests/host/readme_snippet.py < README.md > $(SNIPPET).c
-	$(CC) -std=c11 $(WARNINGS) -Iinclude $(SNIPPET).c $^ $(LDLIBS) -o $(SNIPPET)
+	$(CC) $(C11) $(CPPFLAGS) $(CFLAGS) $(LDFLAGS) $(SNIPPET).c $^ $(LDLIBS) -o $(SNIPPET)
 	$(SNIPPET)
-	$(CXX) -x c++ -std=c++17 $(WARNINGS) -Iinclude $(SNIPPET).c -x none $^ $(LDLIBS) -o $(SNIPPET)
+	$(CXX) -x c++ -std=c++17 $(WARNINGS) -Iinclude $(CPPFLAGS) $(CXXFLAGS) $(LDFLAGS) $(SNIPPET).c \
+	    -x none $^ $(LDLIBS) -o $(SNIPPET)
 	$(SNIPPET)
 
 # Every session, configuration, dump and file name in the documents.
 test-docs: build
-	python3 tests/host/test_docs.py $(RUNNER) $(PLAIN)/format_dump
+	python3 tests/host/test_docs.py $(THE_RUNNER) $(BIN)/plain/format_dump
 
-soak: CALLS = 10000000
-soak: LINES = 10000000
-soak: test-calls test-frames
+soak: test-directed test-calls test-frames
 
+# The times stand apart from the programs, where they are found.
+TIMES := build/host/bench
 bench: build
-	for run in $(RUNS); do $(PLAIN)/bench --samples $(SAMPLES) > $(OUT)/bench.$$run || exit 1; done
-	python3 bench/best.py $(RUNS:%=$(OUT)/bench.%) > $(OUT)/bench.md
-	$(PLAIN)/bench --growth --samples $(SAMPLES) > $(OUT)/growth.csv
-	python3 bench/plot.py < $(OUT)/growth.csv > $(OUT)/growth.svg
-	$(PLAIN)/random_frames --clean --stations 3 --items 1 --lines 5000000 > $(OUT)/small.hex
-	$(PLAIN)/throughput $(OUT)/small.hex $(RUNNER) $(PLAIN)/runner > $(OUT)/throughput.md
-	$(PLAIN)/random_frames --clean --stations 16 --items 32 --lines 1000000 > $(OUT)/large.hex
-	$(PLAIN)/throughput $(OUT)/large.hex $(RUNNER) $(PLAIN)/runner >> $(OUT)/throughput.md
-	cat $(OUT)/bench.md $(OUT)/growth.csv $(OUT)/throughput.md
+	mkdir -p $(TIMES)
+	for run in $(RUNS); do $(BIN)/plain/bench --samples $(SAMPLES) > $(TIMES)/bench.$$run || exit 1; done
+	python3 bench/best.py $(RUNS:%=$(TIMES)/bench.%) > $(TIMES)/bench.md
+	$(BIN)/plain/bench --growth --samples $(SAMPLES) > $(TIMES)/growth.csv
+	python3 bench/plot.py < $(TIMES)/growth.csv > $(TIMES)/growth.svg
+	$(BIN)/plain/clean_frames --stations 3 --items 1 --lines 5000000 > $(TIMES)/small.hex
+	$(BIN)/plain/throughput $(TIMES)/small.hex $(THE_RUNNER) $(BIN)/plain/runner > $(TIMES)/throughput.md
+	$(BIN)/plain/clean_frames --stations 16 --items 32 --lines 1000000 > $(TIMES)/large.hex
+	$(BIN)/plain/throughput $(TIMES)/large.hex $(THE_RUNNER) $(BIN)/plain/runner >> $(TIMES)/throughput.md
+	cat $(TIMES)/bench.md $(TIMES)/growth.csv $(TIMES)/throughput.md
 
 clean:
 	rm -rf build/host
 
--include $(wildcard $(PLAIN)/*.d $(CHECKED)/*.d)
+-include $(wildcard $(OBJ)/plain/*.d $(OBJ)/checked/*.d $(OBJ)/plain/examples/*.d $(OBJ)/checked/examples/*.d)

@@ -1,19 +1,29 @@
 /*
  * The frame runner of document 01 over the reference, one character at a
- * time. It derives the expected output of frame scripts, and shares no code
- * with any other runner. Sentences of the paper stand in quotes.
+ * time. It derives the expected output of frame scripts. Sentences of the
+ * paper stand in quotes.
+ *
+ *   ref_runner [--met] < lines > replies
+ *
+ * With --met it prints what it met to standard error, and ends with status 2
+ * if random lines should have met more.
  */
+#include "calls.h"
+#include "options.h"
 #include "reference.h"
+#include "tally.h"
 
-#include <inttypes.h>
-#include <stdbool.h>
 #include <stdio.h>
+#include <stdlib.h>
 #include <string.h>
 
-enum { LONGEST_LINE = 86 };
+enum { LONGEST_LINE = 2 * FRAME_MOST, NOT_MET = 2 };
+
+static const implementation REFERENCE = IMPLEMENTATION("reference", ref_);
 
 static uint8_t table[OSPREYSCREEN_TABLE_LENGTH_MAX];
 static size_t table_length; /* "Before a lay succeeds the table is empty." */
+static tally counts;
 
 /* The value of an upper-case hexadecimal digit, or -1. */
 static int digit(char c)
@@ -33,17 +43,10 @@ static uint8_t byte(const char *text)
     return (uint8_t)(16 * digit(text[0]) + digit(text[1]));
 }
 
-/* "Lengths in bytes by code, kept as a table: 43, 2, 10, 34, 2, 3, 1, 1, 3, 2." */
-static size_t frame_length(uint8_t code)
+/* Reads the call of a line into the frame; false if the line is no frame. */
+static bool read_frame(const char *line, size_t length, uint8_t frame[FRAME_MOST], call *c)
 {
-    static const size_t lengths[] = {43, 2, 10, 34, 2, 3, 1, 1, 3, 2};
-    return code >= 1 && code <= 10 ? lengths[code - 1] : 0;
-}
-
-/* Reads the bytes of a frame; false if the line is no frame. */
-static bool read_frame(const char *line, size_t length, uint8_t frame[43])
-{
-    if (length < 2 || length % 2 != 0 || length > LONGEST_LINE) {
+    if (length % 2 != 0 || length > LONGEST_LINE) {
         return false;
     }
     for (size_t i = 0; i < length / 2; i++) {
@@ -52,59 +55,38 @@ static bool read_frame(const char *line, size_t length, uint8_t frame[43])
         }
         frame[i] = byte(line + 2 * i);
     }
-    return length / 2 == frame_length(frame[0]);
+    return call_from_frame(c, frame, length / 2);
 }
 
-static uint64_t value(const uint8_t bytes[8])
+/* "For a lay the runner lends just the length that its n and m need." One
+ * that no table has gets 2 at any length. */
+static size_t lent_length(const call *c)
 {
-    uint64_t number = 0;
-    for (int i = 0; i < 8; i++) {
-        number += (uint64_t)bytes[i] << (8 * i);
+    if (c->code != OSPREYSCREEN_LAY) {
+        return table_length;
     }
-    return number;
+    uint64_t need = 56 * (1 + c->numbers[ARGUMENT_N] * c->numbers[ARGUMENT_M]);
+    return need > sizeof table ? 0 : (size_t)need;
 }
 
-/* "A refused lay keeps the old table. For a lay the runner lends just the
- * length that its n and m need." */
-static ospreyscreen_reply lay(const uint8_t *frame)
+/* "A refused lay keeps the old table." */
+static ospreyscreen_reply make_call(const call *c)
 {
-    size_t need = (size_t)56 * (1 + (size_t)frame[1] * frame[2]);
-    if (need > sizeof table) { /* n or m is too large, and gets 2 at any length */
-        need = 0;
+    uint8_t config[OSPREYSCREEN_CONFIGURATION_LENGTH] = {0};
+    loan lent[LENT_KINDS] = {
+        [LENT_TABLE] = {table, lent_length(c)},
+        [LENT_CONFIGURATION] = {config, c->config_len},
+    };
+    if (c->config != NULL) {
+        memcpy(config, c->config, c->config_len);
     }
-    ospreyscreen_reply reply =
-        ref_lay(table, need, frame[1], frame[2], value(frame + 3), frame + 11, 32);
-    if (reply.number == 0) {
-        table_length = need;
+    sight seen = tally_look(c, &(loan){table, table_length}, table_length != 0);
+    ospreyscreen_reply reply = call_make(&REFERENCE, c, lent);
+    tally_call(&counts, &seen, c, &reply);
+    if (c->code == OSPREYSCREEN_LAY && reply.number == OSPREYSCREEN_DONE) {
+        table_length = lent[LENT_TABLE].len;
     }
     return reply;
-}
-
-/* "Byte 0 is the call [..]; then the arguments in the order above" */
-static ospreyscreen_reply make_call(const uint8_t *frame)
-{
-    switch (frame[0]) {
-    case 0x01:
-        return lay(frame);
-    case 0x02:
-        return ref_open_read(table, table_length, frame[1]);
-    case 0x03:
-        return ref_open_write(table, table_length, frame[1], value(frame + 2));
-    case 0x04:
-        return ref_open_change(table, table_length, frame[1], frame + 2, 32);
-    case 0x05:
-        return ref_poll(table, table_length, frame[1]);
-    case 0x06:
-        return ref_put(table, table_length, frame[1], frame[2]);
-    case 0x07:
-        return ref_commit(table, table_length);
-    case 0x08:
-        return ref_abandon(table, table_length);
-    case 0x09:
-        return ref_link(table, table_length, frame[1], frame[2]);
-    default:
-        return ref_reach(table, table_length, frame[1]);
-    }
 }
 
 static void print_figure(uint64_t figure)
@@ -118,12 +100,15 @@ static void print_figure(uint64_t figure)
  * upper-case hexadecimal digits lead it, else 00." */
 static void answer(const char *line, size_t length)
 {
-    uint8_t frame[43];
+    uint8_t frame[FRAME_MOST];
     uint8_t code = length >= 2 && is_byte(line) ? byte(line) : 0;
-    ospreyscreen_reply reply = {12, 0, 0, 0};
+    ospreyscreen_reply reply = {OSPREYSCREEN_FALSE_FRAME, 0, 0, 0};
+    call c;
 
-    if (read_frame(line, length, frame)) {
-        reply = make_call(frame);
+    if (read_frame(line, length, frame, &c)) {
+        reply = make_call(&c);
+    } else {
+        counts.met[MET_FALSE_FRAME]++;
     }
     printf("%02X%02X", code, (unsigned)reply.number);
     print_figure(reply.first);
@@ -134,7 +119,7 @@ static void answer(const char *line, size_t length)
 
 /* "A line ends with byte 0A". "A last line of one byte or more without its
  * line end counts as a line." */
-int main(void)
+static void answer_all(void)
 {
     char line[LONGEST_LINE];
     size_t length = 0;
@@ -153,5 +138,20 @@ int main(void)
     if (length > 0) {
         answer(line, length);
     }
-    return ferror(stdin) || fflush(stdout) != 0 ? 1 : 0;
+}
+
+int main(int argc, char **argv)
+{
+    bool met = false;
+    const option all[] = {{.name = "--met", .flag = &met}};
+
+    options_read(argc, argv, "ref_runner [--met]", all, 1);
+    answer_all();
+    if (ferror(stdin) || fflush(stdout) != 0) {
+        return EXIT_FAILURE;
+    }
+    if (met) {
+        tally_print(stderr, &counts, FORM_FRAMES);
+    }
+    return met && !tally_met_all(stderr, &counts, FORM_FRAMES) ? NOT_MET : EXIT_SUCCESS;
 }

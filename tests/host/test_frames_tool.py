@@ -1,5 +1,12 @@
-"""Tests of tools/frames: fixed words, round trips, wrong words."""
+"""Tests of tools/frames: fixed words, round trips, wrong words.
 
+usage: test_frames_tool.py PRINT_CALLS
+
+PRINT_CALLS prints the calls as the C tests have them.
+"""
+
+import importlib.machinery
+import importlib.util
 import pathlib
 import random
 import subprocess
@@ -7,7 +14,8 @@ import sys
 import unittest
 
 TOOL = pathlib.Path(__file__).resolve().parents[2] / "tools" / "frames"
-LENGTHS = [43, 2, 10, 34, 2, 3, 1, 1, 3, 2]
+PRINT_CALLS = ""
+LENGTHS = [43, 2, 10, 34, 2, 3, 1, 1, 3, 2]  # document 01's, by code
 PAIRS = "030005000600" + "0" * 20
 
 # Words and the frame that they stand for.
@@ -79,6 +87,30 @@ def output_lines(*arguments, lines):
     return result.stdout.decode("latin-1").splitlines(), result
 
 
+def load_tool():
+    """tools/frames as a module."""
+    loader = importlib.machinery.SourceFileLoader("frames", str(TOOL))
+    module = importlib.util.module_from_spec(importlib.util.spec_from_loader("frames", loader))
+    sys.dont_write_bytecode = True
+    loader.exec_module(module)
+    return module
+
+
+class Calls(unittest.TestCase):
+    """The calls of the tool, of the C tests and of document 01 are the same."""
+
+    def rows(self):
+        printed = subprocess.run([PRINT_CALLS], capture_output=True, text=True, check=True).stdout
+        return [line.split("|") for line in printed.splitlines()]
+
+    def test_codes_names_and_arguments(self):
+        rows = [(int(code), name, tuple(kinds.split())) for code, name, _, kinds in self.rows()]
+        self.assertEqual(rows, load_tool().CALLS)
+
+    def test_lengths(self):
+        self.assertEqual([int(length) for _, _, length, _ in self.rows()], LENGTHS)
+
+
 class FramesTool(unittest.TestCase):
     def test_words_to_frames(self):
         got, result = output_lines("encode", lines=[words for words, _ in FRAMES])
@@ -127,6 +159,11 @@ class FramesTool(unittest.TestCase):
         self.assertEqual(run("decode", "--beside", text="07\n\xff\n").stdout,
                          b"07  commit\n\xff  false frame\n")
 
+    def test_comments(self):
+        self.assertEqual(run("decode", "--beside", text="# 07\n07\n").stdout,
+                         b"# 07\n07  commit\n")
+        self.assertEqual(run("encode", text="# 07\ncommit\n").stdout, b"07\n")
+
     def test_usage(self):
         for arguments in ([], ["other"], ["encode", "--beside"]):
             result = run(*arguments, text="")
@@ -135,4 +172,5 @@ class FramesTool(unittest.TestCase):
 
 
 if __name__ == "__main__":
+    PRINT_CALLS = sys.argv.pop(1)
     unittest.main()

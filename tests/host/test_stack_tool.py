@@ -13,7 +13,7 @@ import unittest
 
 ROOT = pathlib.Path(__file__).resolve().parents[2]
 TOOL = ROOT / "tools" / "stack"
-CC = "gcc"
+CC = ["gcc"]
 
 CALLER = """
 0000000000000000 <outer>:
@@ -62,7 +62,7 @@ class StackTool(unittest.TestCase):
         """What the compiler says has the return address, and no red zone."""
         with tempfile.TemporaryDirectory() as folder:
             compiled = pathlib.Path(folder) / "reference.o"
-            subprocess.run([CC, "-std=c11", "-O1", "-fstack-usage", "-ffunction-sections", f"-I{ROOT}/include",
+            subprocess.run([*CC, "-std=c11", "-O1", "-fstack-usage", "-ffunction-sections", f"-I{ROOT}/include",
                             "-c", str(ROOT / "tests" / "host" / "reference.c"), "-o", str(compiled)], check=True)
             said = [line.split("\t") for line in compiled.with_suffix(".su").read_text().splitlines()]
             text = subprocess.run(["objdump", "-dr", "--no-show-raw-insn", str(compiled)],
@@ -75,5 +75,5 @@ class StackTool(unittest.TestCase):
 
 
 if __name__ == "__main__":
-    CC = sys.argv[1]
+    CC = sys.argv[1:]
     unittest.main(argv=sys.argv[:1])

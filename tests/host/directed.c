@@ -1,0 +1,691 @@
+#include "directed.h"
+
+#include "bytes.h"
+#include "configurations.h"
+#include "damage.h"
+#include "draw.h"
+
+#include <string.h>
+
+enum {
+    HEAD = OSPREYSCREEN_HEAD_LENGTH,
+    COPY = OSPREYSCREEN_COPY_LENGTH,
+    CONFIGURATION = OSPREYSCREEN_CONFIGURATION_LENGTH,
+    STATIONS = OSPREYSCREEN_STATIONS_MAX,
+    ITEMS = OSPREYSCREEN_ITEMS_MAX,
+    OFF_AT = 2,
+    ROUND_AT = 4,
+    POLLED_AT = 6,
+    DATA_AT = 8,
+    PUTS_AT = 10,
+    TARGET_AT = 24,
+    CONFIGURATION_IN = 24
+};
+
+/* The table that the calls of a list are made on, each time anew. */
+static uint8_t scene[TABLE_ROOM];
+
+static size_t scene_length(void)
+{
+    return OSPREYSCREEN_TABLE_LENGTH(scene[0], scene[1]);
+}
+
+static uint8_t *scene_copy(unsigned item, unsigned station)
+{
+    return scene + HEAD + (size_t)COPY * (item * scene[0] + station);
+}
+
+/* Starts a list with a sound table of n stations and m items, no round. */
+static void begin(generator *g, unsigned n, unsigned m)
+{
+    damage_fresh(&g->source, scene, n, m);
+    record_table(&g->to, scene_length(), draw_place(&g->source), false);
+}
+
+/* Sets the table to the scene. */
+static void set_scene(generator *g)
+{
+    record_bytes(&g->to, 0, scene, scene_length());
+}
+
+/* ---- Calls ---- */
+
+/* A number in range for an argument, on a table of n and m. */
+static uint64_t fitting_number(rng *r, argument kind, unsigned n, unsigned m)
+{
+    switch (kind) {
+    case ARGUMENT_N:
+        return n;
+    case ARGUMENT_M:
+        return m;
+    case ARGUMENT_ITEM:
+        return rng_below(r, m);
+    case ARGUMENT_STATION:
+        return rng_below(r, n);
+    case ARGUMENT_SORT:
+        return 1 + rng_below(r, 2);
+    case ARGUMENT_STATE:
+        return rng_below(r, 2);
+    default:
+        return rng_next(r);
+    }
+}
+
+/* A call whose arguments are all in range for a table of n and m. */
+static call fitting_call(generator *g, const call_shape *shape, unsigned n, unsigned m)
+{
+    rng *r = &g->source;
+    call c = {.code = shape->code};
+
+    for (int i = 0; i < shape->argument_count; i++) {
+        argument kind = shape->arguments[i];
+        if (kind == ARGUMENT_CONFIGURATION) {
+            draw_configuration(r, n, g->config);
+            c.config = g->config;
+            c.config_len = CONFIGURATION;
+        } else {
+            c.numbers[kind] = fitting_number(r, kind, n, m);
+        }
+    }
+    return c;
+}
+
+/* Sets the scene and makes the call on it. */
+static void call_on_scene(generator *g, const call *c)
+{
+    set_scene(g);
+    generate_step(g, c);
+}
+
+/* Every call on the scene, which need not be sound. */
+static void every_call(generator *g)
+{
+    unsigned n = scene[0] >= 1 && scene[0] <= STATIONS ? scene[0] : STATIONS;
+    unsigned m = scene[1] >= 1 ? scene[1] : 1;
+    for (int i = 0; i < CALL_COUNT; i++) {
+        call c = fitting_call(g, &CALLS[i], n, m);
+        call_on_scene(g, &c);
+    }
+}
+
+static void make(generator *g, int code, argument kind, uint64_t number)
+{
+    call c = {.code = code};
+    c.numbers[kind] = number;
+    generate_step(g, &c);
+}
+
+static void put(generator *g, unsigned station, int sort)
+{
+    call c = {.code = OSPREYSCREEN_PUT};
+    c.numbers[ARGUMENT_STATION] = station;
+    c.numbers[ARGUMENT_SORT] = (uint64_t)sort;
+    generate_step(g, &c);
+}
+
+static void poll_all(generator *g, unsigned n)
+{
+    for (unsigned station = 0; station < n; station++) {
+        make(g, OSPREYSCREEN_POLL, ARGUMENT_STATION, station);
+    }
+}
+
+static void open_change(generator *g, uint64_t item, const uint8_t *target, size_t len)
+{
+    call c = {.code = OSPREYSCREEN_OPEN_CHANGE, .config = target, .config_len = len};
+    c.numbers[ARGUMENT_ITEM] = item;
+    generate_step(g, &c);
+}
+
+static void lay(generator *g, uint64_t n, uint64_t m, const uint8_t *config, size_t len)
+{
+    call c = {.code = OSPREYSCREEN_LAY, .config = config, .config_len = len};
+    c.numbers[ARGUMENT_N] = n;
+    c.numbers[ARGUMENT_M] = m;
+    c.numbers[ARGUMENT_VALUE] = rng_next(&g->source);
+    generate_step(g, &c);
+}
+
+/* ---- Sizes ---- */
+
+static void write_round(generator *g, unsigned n, unsigned item)
+{
+    call c = {.code = OSPREYSCREEN_OPEN_WRITE};
+    c.numbers[ARGUMENT_ITEM] = item;
+    c.numbers[ARGUMENT_VALUE] = rng_next(&g->source);
+    generate_step(g, &c);
+    poll_all(g, n);
+    for (unsigned station = 0; station < n; station++) {
+        put(g, station, OSPREYSCREEN_PUT_DATA);
+    }
+    make(g, OSPREYSCREEN_COMMIT, ARGUMENT_N, 0);
+}
+
+static void read_round(generator *g, unsigned n, unsigned item)
+{
+    make(g, OSPREYSCREEN_OPEN_READ, ARGUMENT_ITEM, item);
+    poll_all(g, n);
+    make(g, OSPREYSCREEN_COMMIT, ARGUMENT_N, 0);
+}
+
+/* A change to the target with both puts at every station. */
+static void change_round(generator *g, unsigned n, unsigned item, const uint8_t *target)
+{
+    open_change(g, item, target, CONFIGURATION);
+    poll_all(g, n);
+    for (unsigned station = 0; station < n; station++) {
+        put(g, station, OSPREYSCREEN_PUT_DATA);
+        put(g, station, OSPREYSCREEN_PUT_CONFIGURATION);
+    }
+    make(g, OSPREYSCREEN_COMMIT, ARGUMENT_N, 0);
+}
+
+/* Every n and m: laid, and a round of each kind on the last item. */
+static void every_size(generator *g, uint64_t index)
+{
+    unsigned n = 1 + (unsigned)index % STATIONS;
+    unsigned m = 1 + (unsigned)index / STATIONS;
+    uint8_t config[CONFIGURATION];
+
+    record_table(&g->to, OSPREYSCREEN_TABLE_LENGTH(n, m), GUARD_AFTER, false);
+    call first = generate_lay(g, n, m);
+    generate_step(g, &first);
+    write_round(g, n, m - 1);
+    draw_configuration(&g->source, n, config);
+    change_round(g, n, m - 1, config);
+    make(g, OSPREYSCREEN_REACH, ARGUMENT_ITEM, m - 1);
+    read_round(g, n, m - 1);
+    read_round(g, n, 0);
+}
+
+/* An n or an m that no table has, with a table of the length that would fit. */
+static const unsigned FALSE_SIZES[][2] = {
+    {0, 1},   {0, 32},   {17, 1},  {17, 32}, {18, 2},  {32, 1},  {33, 3},   {64, 1},    {128, 1},
+    {255, 1}, {1, 0},    {16, 0},  {1, 33},  {16, 33}, {3, 34},  {1, 64},   {2, 128},   {1, 255},
+    {0, 0},   {17, 33},  {0, 33},  {17, 0},  {255, 3}, {3, 255}, {48, 11},  {255, 255},
+};
+enum { FALSE_SIZE_COUNT = sizeof FALSE_SIZES / sizeof FALSE_SIZES[0] };
+
+static void false_size(generator *g, uint64_t index)
+{
+    begin(g, FALSE_SIZES[index][0], FALSE_SIZES[index][1]);
+    set_scene(g);
+    for (int i = 0; i < CALL_COUNT; i++) {
+        call c = fitting_call(g, &CALLS[i], STATIONS, ITEMS);
+        generate_step(g, &c);
+    }
+    draw_configuration(&g->source, STATIONS, g->config);
+    lay(g, scene[0], scene[1], g->config, CONFIGURATION);
+}
+
+/* A sound table under every length from none to some bytes more than fit. */
+static void every_length(generator *g, uint64_t index)
+{
+    enum { N = 2, M = 2, MORE = 60 };
+    size_t fit = OSPREYSCREEN_TABLE_LENGTH(N, M);
+    size_t len = index % (fit + MORE);
+
+    memset(scene, 0, fit + MORE);
+    damage_fresh(&g->source, scene, N, M);
+    record_table(&g->to, len, (guard_place)(index % GUARD_PLACES), index % 2 == 0);
+    for (int i = 0; i < CALL_COUNT; i++) {
+        call c = fitting_call(g, &CALLS[i], N, M);
+        record_bytes(&g->to, 0, scene, len);
+        generate_step(g, &c);
+    }
+}
+enum { EVERY_LENGTH_COUNT = OSPREYSCREEN_TABLE_LENGTH(2, 2) + 60 };
+
+/* ---- Soundness ---- */
+
+static const unsigned SIZES[][2] = {{1, 1}, {1, 2}, {2, 1}, {3, 2}, {7, 3}, {8, 2}, {9, 1}, {15, 2}, {16, 3}};
+enum { SIZE_COUNT = sizeof SIZES / sizeof SIZES[0] };
+
+/* Each clause broken alone, many times, and every call on it. */
+static void one_clause(generator *g, uint64_t index)
+{
+    enum { TIMES = 12 };
+    rng *r = &g->source;
+    const unsigned *size = SIZES[index / BROKEN_CLAUSES];
+
+    begin(g, size[0], size[1]);
+    set_scene(g);
+    for (int time = 0; time < TIMES; time++) {
+        damage_fresh(r, scene, size[0], size[1]);
+        set_set(scene + OFF_AT, part_of(r, all_stations(size[0])) & part_of(r, all_stations(size[0])));
+        if (damage_clause(r, scene, (broken_clause)(index % BROKEN_CLAUSES))) {
+            every_call(g);
+        }
+    }
+}
+
+/* Every bit of one byte of a table turned over, in each kind of round. */
+static void one_byte(generator *g, unsigned n, unsigned m, uint64_t index)
+{
+    begin(g, n, m);
+    damage_round(&g->source, scene, (unsigned)index % 4);
+    for (unsigned bit = 0; bit < 8; bit++) {
+        scene[index / 4] ^= (uint8_t)(1u << bit);
+        /* The length stays what the table's n and m were. */
+        for (int i = 0; i < CALL_COUNT; i++) {
+            call c = fitting_call(g, &CALLS[i], n, m);
+            record_bytes(&g->to, 0, scene, OSPREYSCREEN_TABLE_LENGTH(n, m));
+            generate_step(g, &c);
+        }
+        scene[index / 4] ^= (uint8_t)(1u << bit);
+    }
+}
+
+static void byte_of_small(generator *g, uint64_t index)
+{
+    one_byte(g, 3, 2, index);
+}
+
+static void byte_of_large(generator *g, uint64_t index)
+{
+    one_byte(g, 16, 1, index);
+}
+
+/* ---- Configurations ---- */
+
+/* The configuration where a call or the table can have it: at lay, as a
+ * target, as the target of an open change, in a copy. */
+static void configuration_everywhere(generator *g, const uint8_t *config)
+{
+    rng *r = &g->source;
+    unsigned n = scene[0];
+    unsigned m = scene[1];
+
+    set_scene(g);
+    open_change(g, 0, config, CONFIGURATION);
+    lay(g, n, m, config, CONFIGURATION);
+    damage_fresh(r, scene, n, m);
+    memcpy(scene_copy((unsigned)rng_below(r, m), (unsigned)rng_below(r, n)) + CONFIGURATION_IN, config,
+           CONFIGURATION);
+    set_scene(g);
+    make(g, OSPREYSCREEN_REACH, ARGUMENT_ITEM, 0);
+    damage_fresh(r, scene, n, m);
+    damage_round(r, scene, OSPREYSCREEN_ROUND_CHANGE);
+    memcpy(scene + TARGET_AT, config, CONFIGURATION);
+    set_scene(g);
+    make(g, OSPREYSCREEN_ABANDON, ARGUMENT_N, 0);
+    damage_fresh(r, scene, n, m);
+}
+
+/* Only this read place and this write place have no station in common; so
+ * many more places are used on each side. */
+static void disjoint_pair(rng *r, uint8_t *config, unsigned n, unsigned read, unsigned write)
+{
+    unsigned read_used = read + 1 + (unsigned)rng_below(r, PLACES - read);
+    unsigned write_used = write + 1 + (unsigned)rng_below(r, PLACES - write);
+    unsigned part = 1u << rng_below(r, n);
+
+    part |= part_of(r, all_stations(n));
+    part = part == all_stations(n) ? 1u << rng_below(r, n) : part;
+    memset(config, 0, CONFIGURATION);
+    for (unsigned place = 0; place < read_used; place++) {
+        configuration_set_to(config, READ_SIDE + place, place == read ? part : all_stations(n));
+    }
+    for (unsigned place = 0; place < write_used; place++) {
+        configuration_set_to(config, WRITE_SIDE + place, place == write ? all_stations(n) & ~part : all_stations(n));
+    }
+}
+
+/* Every pair of places of the eight by eight, for every n. */
+static void one_pair(generator *g, uint64_t index)
+{
+    uint8_t config[CONFIGURATION];
+    unsigned n = 2 + (unsigned)index / (PLACES * PLACES);
+
+    begin(g, n, 1);
+    for (int time = 0; time < 4; time++) {
+        disjoint_pair(&g->source, config, n, (unsigned)index / PLACES % PLACES, (unsigned)index % PLACES);
+        configuration_everywhere(g, config);
+    }
+}
+
+/* Every station that is none of the n, in every place that is used. */
+static void foreign_stations(generator *g, uint64_t index)
+{
+    unsigned n = 1 + (unsigned)index / (2 * PLACES);
+    unsigned place = (unsigned)index % (2 * PLACES);
+    uint8_t config[CONFIGURATION];
+
+    begin(g, n, 1);
+    for (unsigned station = n; station < STATIONS; station++) {
+        configuration_majorities(&g->source, n, config);
+        configuration_set_to(config, place, configuration_set(config, place) | 1u << station);
+        configuration_everywhere(g, config);
+    }
+}
+
+/* Every pattern of used and unused places on one side, the other side good. */
+static void used_places(generator *g, uint64_t index)
+{
+    unsigned n = 1 + (unsigned)index / 512;
+    unsigned side = index / 256 % 2 == 0 ? READ_SIDE : WRITE_SIDE;
+    uint8_t config[CONFIGURATION];
+
+    begin(g, n, 1);
+    configuration_majorities(&g->source, n, config);
+    for (unsigned place = 0; place < PLACES; place++) {
+        if ((index >> place & 1) == 0) {
+            configuration_set_to(config, side + place, 0);
+        }
+    }
+    configuration_everywhere(g, config);
+}
+
+/* A configuration of every length, whose first 32 bytes are valid. */
+static void configuration_length(generator *g, uint64_t index)
+{
+    unsigned n = 1 + (unsigned)index % STATIONS;
+
+    begin(g, n, 1);
+    set_scene(g);
+    for (int fill = 0; fill < 3; fill++) {
+        memset(g->config, fill * 0x7F, sizeof g->config);
+        draw_configuration(&g->source, n, g->config);
+        open_change(g, 0, g->config, index);
+        lay(g, n, 1, g->config, index);
+    }
+    if (index == 0) {
+        open_change(g, 0, NULL, 0);
+        lay(g, n, 1, NULL, 0);
+    }
+}
+
+/* ---- Arguments ---- */
+
+enum { SMALL = 301, WIDTHS = 6, NEAR = 40, ARGUMENT_NUMBERS = SMALL + WIDTHS * NEAR };
+
+/* The numbers that each argument is tried with: small ones, and those around
+ * the widths that a conversion could cut to. */
+static uint64_t argument_number(uint64_t index)
+{
+    static const unsigned widths[WIDTHS] = {8, 16, 31, 32, 63, 64};
+    if (index < SMALL) {
+        return index;
+    }
+    unsigned width = widths[(index - SMALL) / NEAR];
+    uint64_t power = width == 64 ? 0 : UINT64_C(1) << width;
+    return power + (index - SMALL) % NEAR - 2;
+}
+
+/* One number for each argument of each call in turn, the others in range, in
+ * each kind of round. */
+static void one_argument(generator *g, uint64_t index)
+{
+    static const unsigned sizes[][2] = {{1, 1}, {3, 2}, {16, 2}, {2, 32}};
+    const unsigned *size = sizes[index % 4];
+    uint64_t number = argument_number(index / 4);
+
+    begin(g, size[0], size[1]);
+    for (unsigned kind = 0; kind < 4; kind++) {
+        damage_round(&g->source, scene, kind);
+        for (int i = 0; i < CALL_COUNT; i++) {
+            for (int k = 0; k < CALLS[i].argument_count; k++) {
+                call c = fitting_call(g, &CALLS[i], size[0], size[1]);
+                if (CALLS[i].arguments[k] != ARGUMENT_CONFIGURATION) {
+                    c.numbers[CALLS[i].arguments[k]] = number;
+                    call_on_scene(g, &c);
+                }
+            }
+        }
+    }
+}
+
+/* ---- Copies ---- */
+
+/* Makes the item's copies old ones of majorities, all polled in a read. */
+static void begin_copies(generator *g, unsigned n)
+{
+    begin(g, n, 1);
+    for (unsigned station = 0; station < n; station++) {
+        uint8_t *copy = scene_copy(0, station);
+        set_number(copy + COUNTER_VERSION, 8, 0);
+        set_number(copy + COUNTER_GENERATION, 8, 0);
+        configuration_majorities(&g->source, n, copy + CONFIGURATION_IN);
+    }
+}
+
+/* A read, a write and a change of the scene's item with every station polled,
+ * and its reach with each station off in turn. */
+static void look_at_copies(generator *g)
+{
+    unsigned n = scene[0];
+    call commit = {.code = OSPREYSCREEN_COMMIT};
+
+    for (unsigned kind = OSPREYSCREEN_ROUND_READ; kind <= OSPREYSCREEN_ROUND_CHANGE; kind++) {
+        damage_round(&g->source, scene, kind);
+        scene[ROUND_AT + 1] = 0;
+        set_set(scene + POLLED_AT, all_stations(n));
+        if (kind != OSPREYSCREEN_ROUND_READ) {
+            set_set(scene + DATA_AT, all_stations(n));
+        }
+        if (kind == OSPREYSCREEN_ROUND_CHANGE) {
+            set_set(scene + PUTS_AT, all_stations(n));
+        }
+        call_on_scene(g, &commit);
+    }
+    damage_round(&g->source, scene, OSPREYSCREEN_ROUND_NONE);
+    set_scene(g);
+    for (unsigned station = 0; station < n; station++) {
+        call off = {.code = OSPREYSCREEN_LINK};
+        off.numbers[ARGUMENT_STATION] = station;
+        generate_step(g, &off);
+        make(g, OSPREYSCREEN_REACH, ARGUMENT_ITEM, 0);
+        off.numbers[ARGUMENT_STATE] = OSPREYSCREEN_LINK_ON;
+        generate_step(g, &off);
+    }
+}
+
+/* The two stations that the number chooses among n, the lower one first. */
+static void two_stations(uint64_t number, unsigned n, unsigned *a, unsigned *b)
+{
+    *a = (unsigned)number % n;
+    *b = (unsigned)number / n % n;
+}
+
+/* Two copies share the highest version, or the highest generation, or both,
+ * and hold different things: for every n and every two stations. */
+static void one_tie(generator *g, uint64_t index)
+{
+    unsigned n = 2 + (unsigned)index / (STATIONS * STATIONS);
+    unsigned a;
+    unsigned b;
+
+    two_stations(index % (STATIONS * STATIONS), n, &a, &b);
+    begin_copies(g, n);
+    for (unsigned which = 1; which < 4; which++) {
+        for (unsigned station = 0; station < n; station++) {
+            bool tied = station == a || station == b;
+            set_number(scene_copy(0, station) + COUNTER_VERSION, 8, tied && (which & 1) != 0);
+            set_number(scene_copy(0, station) + COUNTER_GENERATION, 8, tied && (which & 2) != 0);
+        }
+        draw_configuration(&g->source, n, scene_copy(0, a) + CONFIGURATION_IN);
+        look_at_copies(g);
+    }
+}
+
+/* Counters that differ in one byte: the low bytes say the opposite. Every
+ * byte, every two of 1 to 4 stations, both counters, and the sign. */
+static void one_counter(generator *g, uint64_t index)
+{
+    unsigned n = 2 + (unsigned)index % 3;
+    unsigned byte = (unsigned)index / 3 % 9;
+    uint64_t high = byte == 8 ? UINT64_C(1) << 63 : UINT64_C(1) << 8 * byte;
+    unsigned a;
+    unsigned b;
+
+    two_stations(index / 27, n, &a, &b);
+    begin_copies(g, n);
+    for (unsigned at = COUNTER_VERSION; at <= COUNTER_GENERATION; at += COUNTER_GENERATION) {
+        set_number(scene_copy(0, a) + at, 8, high - 1);
+        set_number(scene_copy(0, b) + at, 8, high);
+    }
+    look_at_copies(g);
+}
+
+/* Counters at the end of their range, on each kind of round, for each put. */
+static void spent_counters(generator *g, uint64_t index)
+{
+    rng *r = &g->source;
+    unsigned n = 1 + (unsigned)index % STATIONS;
+    unsigned version_left = (unsigned)index / STATIONS % 3;
+    unsigned generation_left = (unsigned)index / (3 * STATIONS) % 3;
+    unsigned station = (unsigned)rng_below(r, n);
+
+    begin_copies(g, n);
+    set_number(scene_copy(0, station) + COUNTER_VERSION, 8, UINT64_MAX - version_left);
+    set_number(scene_copy(0, station) + COUNTER_GENERATION, 8, UINT64_MAX - generation_left);
+    for (unsigned kind = OSPREYSCREEN_ROUND_READ; kind <= OSPREYSCREEN_ROUND_CHANGE; kind++) {
+        damage_round(r, scene, kind);
+        set_set(scene + POLLED_AT, all_stations(n));
+        set_scene(g);
+        put(g, (unsigned)rng_below(r, n), OSPREYSCREEN_PUT_DATA);
+        put(g, (unsigned)rng_below(r, n), OSPREYSCREEN_PUT_CONFIGURATION);
+        make(g, OSPREYSCREEN_COMMIT, ARGUMENT_N, 0);
+    }
+    look_at_copies(g);
+}
+
+/* ---- Rounds ---- */
+
+/* Every set of stations off the bus, and the reach of every item. */
+static void every_off_set(generator *g, uint64_t index)
+{
+    enum { MOST = 8 };
+    unsigned n = 1 + (unsigned)index % MOST;
+
+    begin(g, n, 2);
+    set_scene(g);
+    for (unsigned off = 0; off <= all_stations(n); off++) {
+        uint8_t set[2];
+        set_set(set, off);
+        record_bytes(&g->to, OFF_AT, set, sizeof set);
+        make(g, OSPREYSCREEN_REACH, ARGUMENT_ITEM, 0);
+        make(g, OSPREYSCREEN_REACH, ARGUMENT_ITEM, 1);
+    }
+}
+
+/* Every set of data puts and of configuration puts, and a commit. */
+static void every_put_set(generator *g, uint64_t index)
+{
+    enum { N = 4, M = 3 };
+    call commit = {.code = OSPREYSCREEN_COMMIT};
+
+    begin(g, N, M);
+    unsigned kind = OSPREYSCREEN_ROUND_WRITE + (unsigned)index % 2;
+    damage_round(&g->source, scene, kind);
+    set_set(scene + POLLED_AT, index % 4 < 2 ? all_stations(N) : part_of(&g->source, all_stations(N)));
+    for (unsigned data = 0; data <= all_stations(N); data++) {
+        for (unsigned config = 0; config <= all_stations(N); config++) {
+            set_set(scene + DATA_AT, data);
+            set_set(scene + PUTS_AT, kind == OSPREYSCREEN_ROUND_CHANGE ? config : 0);
+            call_on_scene(g, &commit);
+        }
+    }
+}
+
+/* Any sound table in any sound round, and every call on it. */
+static void any_sound_table(generator *g, uint64_t index)
+{
+    rng *r = &g->source;
+    unsigned n = 1 + (unsigned)index % STATIONS;
+    unsigned m = 1 + (unsigned)index / STATIONS % 3;
+
+    begin(g, n, m);
+    for (unsigned kind = 0; kind < 4; kind++) {
+        damage_fresh(r, scene, n, m);
+        set_set(scene + OFF_AT, part_of(r, all_stations(n)) & part_of(r, all_stations(n)));
+        damage_round(r, scene, kind);
+        if (rng_one_in(r, 2)) {
+            damage_tie(r, scene, scene[ROUND_AT + 1]);
+        }
+        if (rng_one_in(r, 4)) {
+            damage_counters(r, scene, scene_length());
+        }
+        if (rng_one_in(r, 2)) {
+            set_set(scene + DATA_AT, 0);
+            set_set(scene + PUTS_AT, 0);
+        }
+        if (kind != 0 && rng_one_in(r, 2)) {
+            set_set(scene + POLLED_AT, all_stations(n));
+        }
+        every_call(g);
+    }
+}
+
+/* The quorums move to stations that no old set names, and back, and rounds go
+ * on; the book covers these. */
+static void moves(generator *g, uint64_t index)
+{
+    rng *r = &g->source;
+    unsigned n = 2 + (unsigned)index % (STATIONS - 1);
+    unsigned low = 1u << rng_below(r, n);
+    uint8_t here[CONFIGURATION];
+    uint8_t there[CONFIGURATION];
+
+    low |= part_of(r, all_stations(n));
+    low = low == all_stations(n) ? 1 : low;
+    configuration_among(r, low, here);
+    configuration_among(r, all_stations(n) & ~low, there);
+    record_table(&g->to, OSPREYSCREEN_TABLE_LENGTH(n, 1u), GUARD_ODD, false);
+    lay(g, n, 1, here, CONFIGURATION);
+    for (int turn = 0; turn < 3; turn++) {
+        write_round(g, n, 0);
+        change_round(g, n, 0, turn % 2 == 0 ? there : here);
+        make(g, OSPREYSCREEN_REACH, ARGUMENT_ITEM, 0);
+        read_round(g, n, 0);
+    }
+}
+
+/* ---- The lists in a row ---- */
+
+typedef struct {
+    void (*record)(generator *g, uint64_t index);
+    uint64_t count;
+} group;
+
+static const group GROUPS[] = {
+    {every_size, (uint64_t)STATIONS * ITEMS},
+    {false_size, FALSE_SIZE_COUNT},
+    {every_length, EVERY_LENGTH_COUNT},
+    {one_clause, (uint64_t)SIZE_COUNT * BROKEN_CLAUSES},
+    {byte_of_small, 4 * OSPREYSCREEN_TABLE_LENGTH(3, 2)},
+    {byte_of_large, 4 * OSPREYSCREEN_TABLE_LENGTH(16, 1)},
+    {one_pair, (uint64_t)PLACES * PLACES * (STATIONS - 1)},
+    {foreign_stations, (uint64_t)2 * PLACES * (STATIONS - 1)},
+    {used_places, (uint64_t)512 * STATIONS},
+    {configuration_length, 1 + CONFIGURATION_ROOM},
+    {one_argument, (uint64_t)4 * ARGUMENT_NUMBERS},
+    {one_tie, (uint64_t)STATIONS * STATIONS * (STATIONS - 1)},
+    {one_counter, (uint64_t)27 * 16},
+    {spent_counters, (uint64_t)9 * STATIONS},
+    {every_off_set, 80},
+    {every_put_set, 40},
+    {any_sound_table, 4800},
+    {moves, (uint64_t)20 * (STATIONS - 1)},
+};
+enum { GROUP_COUNT = sizeof GROUPS / sizeof GROUPS[0] };
+
+uint64_t directed_count(void)
+{
+    uint64_t count = 0;
+    for (int i = 0; i < GROUP_COUNT; i++) {
+        count += GROUPS[i].count;
+    }
+    return count;
+}
+
+void directed_list(generator *g, uint64_t seed, uint64_t number)
+{
+    const group *at = GROUPS;
+
+    g->source = generate_source(seed, number);
+    for (; number >= at->count; at++) {
+        number -= at->count;
+    }
+    at->record(g, number);
+}

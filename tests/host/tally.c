@@ -1,0 +1,371 @@
+#include "tally.h"
+
+#include "bytes.h"
+#include "configurations.h"
+#include "outlook.h"
+
+#include <inttypes.h>
+#include <stdio.h>
+
+enum {
+    RANDOM = 1 << FORM_RANDOM,
+    DIRECTED = 1 << FORM_DIRECTED,
+    SEASON = 1 << FORM_SEASON,
+    FRAMES = 1 << FORM_FRAMES,
+    BY_HAND = RANDOM | DIRECTED, /* where bytes are set by hand */
+    ALL = BY_HAND | SEASON | FRAMES
+};
+
+typedef struct {
+    const char *name;
+    unsigned forms; /* that should meet it */
+} meter_row;
+
+static const meter_row METERS[MET_COUNT] = {
+    [MET_REACH_NOTHING] = {"reach 0, nothing", ALL},
+    [MET_REACH_READ] = {"reach 1, read", ALL},
+    [MET_REACH_READ_AND_WRITE] = {"reach 3, read and write", ALL},
+    [MET_VERSION_TIE] = {"commits that found a tie by version, values different", BY_HAND},
+    [MET_GENERATION_TIE] = {"calls that found a tie by generation, configurations different", BY_HAND},
+    [MET_REACH_TIE] = {"reaches that found a tie by generation, configurations different", BY_HAND},
+    [MET_DISJOINT_MOVE] = {"changes to disjoint stations", ALL},
+    [MET_MISSING_MOVE] = {"changes where every old write set misses every new read set", ALL},
+    [MET_STALE_POLL] = {"polls of a copy older than one polled before", ALL},
+    [MET_DROP] = {"drops", ALL},
+    [MET_DROP_OF_A_PUT] = {"drops that took back a put", ALL},
+    [MET_RETURN] = {"returns", ALL},
+    [MET_SHORT_WRITE] = {"short writes", ALL},
+    [MET_SHORT_DATA] = {"changes short of data puts alone", ALL},
+    [MET_SHORT_CONFIGURATION] = {"changes short of configuration puts alone", ALL},
+    [MET_SPENT_VERSION] = {"spent in a write", BY_HAND},
+    [MET_SPENT_GENERATION] = {"spent in a change", BY_HAND},
+    [MET_BOOK] = {"finished rounds compared with the book", RANDOM | DIRECTED | SEASON},
+    [MET_BYTES] = {"tables changed by hand", BY_HAND},
+    [MET_RAISE] = {"counters raised", RANDOM},
+    [MET_ODD_CONFIGURATION] = {"configurations not 32 bytes long", BY_HAND | SEASON},
+    [MET_FALSE_FRAME] = {"lines that are no frame", FRAMES},
+};
+
+static const char *const ROUND_NAMES[ROUND_KINDS] = {"none", "read", "write", "change"};
+
+static const char *const CLAUSES[BROKEN_CLAUSES] = {
+    [BROKEN_SHORT] = "shorter than a head",
+    [BROKEN_LENGTH] = "length",
+    [BROKEN_N_ZERO] = "n is 0",
+    [BROKEN_N_HIGH] = "n above 16",
+    [BROKEN_M_ZERO] = "m is 0",
+    [BROKEN_M_HIGH] = "m above 32",
+    [BROKEN_ROUND] = "no such round",
+    [BROKEN_ITEM] = "no such item",
+    [BROKEN_OFF_STATION] = "off set: no such station",
+    [BROKEN_POLLED_STATION] = "polled set: no such station",
+    [BROKEN_DATA_STATION] = "data puts: no such station",
+    [BROKEN_CONFIGURATION_STATION] = "configuration puts: no such station",
+    [BROKEN_DATA_OFF] = "data put off the bus",
+    [BROKEN_CONFIGURATION_OFF] = "configuration put off the bus",
+    [BROKEN_NONE_ITEM] = "no round, an item",
+    [BROKEN_NONE_POLLED] = "no round, a polled set",
+    [BROKEN_NONE_DATA] = "no round, data puts",
+    [BROKEN_NONE_CONFIGURATION] = "no round, configuration puts",
+    [BROKEN_NONE_VALUE] = "no round, a value",
+    [BROKEN_NONE_TARGET] = "no round, a target",
+    [BROKEN_READ_DATA] = "a read with data puts",
+    [BROKEN_READ_CONFIGURATION] = "a read with configuration puts",
+    [BROKEN_READ_VALUE] = "a read with a value",
+    [BROKEN_READ_TARGET] = "a read with a target",
+    [BROKEN_WRITE_CONFIGURATION] = "a write with configuration puts",
+    [BROKEN_WRITE_TARGET] = "a write with a target",
+    [BROKEN_CHANGE_VALUE] = "a change with a value",
+    [BROKEN_TARGET + FALSE_READ_EMPTY] = "target: empty read side",
+    [BROKEN_TARGET + FALSE_WRITE_EMPTY] = "target: empty write side",
+    [BROKEN_TARGET + FALSE_READ_GAP] = "target: gap on the read side",
+    [BROKEN_TARGET + FALSE_WRITE_GAP] = "target: gap on the write side",
+    [BROKEN_TARGET + FALSE_READ_STATION] = "target: no such station to read",
+    [BROKEN_TARGET + FALSE_WRITE_STATION] = "target: no such station to write",
+    [BROKEN_TARGET + FALSE_DISJOINT] = "target: disjoint sets",
+    [BROKEN_ZEROS] = "bytes 12 to 15",
+    [BROKEN_COPY + FALSE_READ_EMPTY] = "copy: empty read side",
+    [BROKEN_COPY + FALSE_WRITE_EMPTY] = "copy: empty write side",
+    [BROKEN_COPY + FALSE_READ_GAP] = "copy: gap on the read side",
+    [BROKEN_COPY + FALSE_WRITE_GAP] = "copy: gap on the write side",
+    [BROKEN_COPY + FALSE_READ_STATION] = "copy: no such station to read",
+    [BROKEN_COPY + FALSE_WRITE_STATION] = "copy: no such station to write",
+    [BROKEN_COPY + FALSE_DISJOINT] = "copy: disjoint sets",
+};
+
+/* ---- Looking ---- */
+
+/* Ties among the polled copies. */
+static void look_at_ties(sight *s, const outlook *o, const call *c)
+{
+    if (o->polled != 0) {
+        s->met[MET_GENERATION_TIE] = outlook_tie(o, o->item, o->polled, COUNTER_GENERATION);
+        s->met[MET_VERSION_TIE] = c->code == OSPREYSCREEN_COMMIT &&
+                                  outlook_tie(o, o->item, o->polled, COUNTER_VERSION);
+    }
+}
+
+/* What a commit lacks, and where a change moves the quorums. */
+static void look_at_commit(sight *s, const outlook *o)
+{
+    const uint8_t *found = outlook_configuration(o, o->item, o->polled);
+    if (found == NULL) {
+        return;
+    }
+    bool change = o->round == OSPREYSCREEN_ROUND_CHANGE;
+    s->lacks_data = !configuration_holds(change ? o->target : found, WRITE_SIDE, o->data_puts);
+    s->lacks_configuration =
+        change && !configuration_holds(found, WRITE_SIDE, o->configuration_puts);
+    s->met[MET_DISJOINT_MOVE] =
+        change && (configuration_stations(found) & configuration_stations(o->target)) == 0;
+    s->met[MET_MISSING_MOVE] = change && configuration_misses(found, o->target);
+}
+
+/* A copy that is older than one polled before. */
+static bool stale(const outlook *o, const call *c)
+{
+    uint64_t station = c->numbers[ARGUMENT_STATION];
+    if (o->polled == 0 || station >= o->n) {
+        return false;
+    }
+    const uint8_t *newest = outlook_newest(o, o->item, o->polled, COUNTER_VERSION);
+    const uint8_t *copy = outlook_copy(o, o->item, (unsigned)station);
+    return get_number(copy + COUNTER_VERSION, 8) < get_number(newest + COUNTER_VERSION, 8);
+}
+
+static void look_at_link(sight *s, const outlook *o, const call *c)
+{
+    uint64_t station = c->numbers[ARGUMENT_STATION];
+    bool goes_off = c->numbers[ARGUMENT_STATE] == OSPREYSCREEN_LINK_OFF;
+    unsigned one = station < o->n ? 1u << station : 0;
+
+    s->met[MET_DROP] = goes_off && (o->on & one) != 0;
+    s->met[MET_DROP_OF_A_PUT] = goes_off && ((o->data_puts | o->configuration_puts) & one) != 0;
+    s->met[MET_RETURN] = !goes_off && (o->off & one) != 0;
+}
+
+sight tally_look(const call *c, const loan *table, bool covered)
+{
+    sight s = {0};
+    outlook o;
+
+    s.broken = covered ? 0 : ref_broken(table->bytes, table->len);
+    if (!outlook_read(&o, table->bytes, table->len)) {
+        return s;
+    }
+    s.n = o.n;
+    s.round = o.round % ROUND_KINDS;
+    if (!covered && o.round != OSPREYSCREEN_ROUND_NONE) {
+        look_at_ties(&s, &o, c);
+    }
+    switch (c->code) {
+    case OSPREYSCREEN_POLL:
+        s.met[MET_STALE_POLL] = stale(&o, c);
+        break;
+    case OSPREYSCREEN_COMMIT:
+        look_at_commit(&s, &o);
+        break;
+    case OSPREYSCREEN_LINK:
+        look_at_link(&s, &o, c);
+        break;
+    case OSPREYSCREEN_REACH:
+        s.met[MET_REACH_TIE] = !covered && c->numbers[ARGUMENT_ITEM] < o.m &&
+                               outlook_tie(&o, (unsigned)c->numbers[ARGUMENT_ITEM],
+                                           all_stations(o.n), COUNTER_GENERATION);
+        break;
+    default:
+        break;
+    }
+    return s;
+}
+
+/* ---- Counting ---- */
+
+static void count_done(tally *t, const sight *s, const call *c, const ospreyscreen_reply *reply)
+{
+    for (int m = 0; m < MET_COUNT; m++) {
+        t->met[m] += s->met[m];
+    }
+    if (c->code == OSPREYSCREEN_COMMIT) {
+        t->commits[s->round][s->n]++;
+    }
+    if (c->code == OSPREYSCREEN_REACH) {
+        t->met[MET_REACH_NOTHING] += reply->first == OSPREYSCREEN_REACH_NOTHING;
+        t->met[MET_REACH_READ] += reply->first == OSPREYSCREEN_REACH_READ;
+        t->met[MET_REACH_READ_AND_WRITE] += reply->first == OSPREYSCREEN_REACH_READ_AND_WRITE;
+    }
+}
+
+/* Counts a clause that is broken alone. With no items no item is in range. */
+static void count_alone(tally *t, uint64_t broken)
+{
+    if ((broken >> BROKEN_M_ZERO & 1) != 0) {
+        broken &= ~(UINT64_C(1) << BROKEN_ITEM);
+    }
+    for (unsigned clause = 0; clause < BROKEN_CLAUSES; clause++) {
+        t->alone[clause] += broken == UINT64_C(1) << clause;
+    }
+}
+
+static void count_refused(tally *t, const sight *s, const call *c, uint64_t number)
+{
+    bool write = s->round == OSPREYSCREEN_ROUND_WRITE;
+    if (number == OSPREYSCREEN_SHORT) {
+        t->met[MET_SHORT_WRITE] += write;
+        t->met[MET_SHORT_DATA] += !write && s->lacks_data && !s->lacks_configuration;
+        t->met[MET_SHORT_CONFIGURATION] += !write && !s->lacks_data && s->lacks_configuration;
+    }
+    if (number == OSPREYSCREEN_SPENT) {
+        t->met[MET_SPENT_VERSION] += write;
+        t->met[MET_SPENT_GENERATION] += !write;
+    }
+    if (number == OSPREYSCREEN_UNSOUND && c->code != OSPREYSCREEN_LAY) {
+        count_alone(t, s->broken);
+    }
+}
+
+void tally_call(tally *t, const sight *s, const call *c, const ospreyscreen_reply *reply)
+{
+    t->calls++;
+    t->replies[c->code][reply->number]++;
+    t->met[MET_ODD_CONFIGURATION] += call_has(shape_of(c), ARGUMENT_CONFIGURATION) &&
+                                     c->config_len != OSPREYSCREEN_CONFIGURATION_LENGTH;
+    if (reply->number == OSPREYSCREEN_DONE) {
+        count_done(t, s, c, reply);
+    } else {
+        count_refused(t, s, c, reply->number);
+    }
+}
+
+/* ---- The report ---- */
+
+/* Whether the form should meet the number from the call. A season damages
+ * nothing and raises no counter; a runner lends a lay what it needs, and its
+ * table is unsound only before a lay. */
+static bool form_gives(form f, const call_shape *shape, uint64_t number)
+{
+    bool by_hand = f == FORM_RANDOM || f == FORM_DIRECTED;
+    bool lay = shape->code == OSPREYSCREEN_LAY;
+
+    if (!call_can_give(shape, number)) {
+        return false;
+    }
+    switch (number) {
+    case OSPREYSCREEN_UNSOUND:
+        return by_hand || lay == (f == FORM_SEASON);
+    case OSPREYSCREEN_SPENT:
+        return by_hand;
+    default:
+        return true;
+    }
+}
+
+static bool form_meets(form f, int m)
+{
+    return (METERS[m].forms >> f & 1) != 0;
+}
+
+/* A row for each number, a column for each call. */
+static void print_replies(FILE *to, const tally *t, form f)
+{
+    fprintf(to, "%-8s%11s", "number", "replies");
+    for (int i = 0; i < CALL_COUNT; i++) {
+        fprintf(to, "%13s", CALLS[i].name);
+    }
+    for (uint64_t number = 0; number < REPLY_NUMBERS; number++) {
+        uint64_t all = 0;
+        for (int i = 0; i < CALL_COUNT; i++) {
+            all += t->replies[CALLS[i].code][number];
+        }
+        fprintf(to, "\n%-8" PRIu64 "%11" PRIu64, number, all);
+        for (int i = 0; i < CALL_COUNT; i++) {
+            if (form_gives(f, &CALLS[i], number)) {
+                fprintf(to, "%13" PRIu64, t->replies[CALLS[i].code][number]);
+            } else {
+                fprintf(to, "%13s", "-");
+            }
+        }
+    }
+    fprintf(to, "\n");
+}
+
+static void print_commits(FILE *to, const tally *t)
+{
+    fprintf(to, "finished rounds by n, 1 to %d\n", OSPREYSCREEN_STATIONS_MAX);
+    for (int kind = 1; kind < ROUND_KINDS; kind++) {
+        fprintf(to, "%8s", ROUND_NAMES[kind]);
+        for (int n = 1; n < STATION_COUNTS; n++) {
+            fprintf(to, " %" PRIu64, t->commits[kind][n]);
+        }
+        fprintf(to, "\n");
+    }
+}
+
+void tally_print(FILE *to, const tally *t, form f)
+{
+    fprintf(to, "calls %" PRIu64 " in %" PRIu64 " lists\n", t->calls, t->lists);
+    print_replies(to, t, f);
+    print_commits(to, t);
+    for (int m = 0; m < MET_COUNT; m++) {
+        if (form_meets(f, m)) {
+            fprintf(to, "%9" PRIu64 "  %s\n", t->met[m], METERS[m].name);
+        }
+    }
+    if ((BY_HAND >> f & 1) == 0) {
+        return;
+    }
+    fprintf(to, "calls on a table that breaks one clause of soundness alone\n");
+    for (int clause = 0; clause < BROKEN_CLAUSES; clause++) {
+        fprintf(to, "%9" PRIu64 "  %s\n", t->alone[clause], CLAUSES[clause]);
+    }
+}
+
+/* Tells of one thing that was to be met, if it was not. */
+static bool met(FILE *to, uint64_t times, const char *kind, const char *what)
+{
+    if (times == 0) {
+        fprintf(to, "not met: %s%s\n", kind, what);
+    }
+    return times != 0;
+}
+
+static bool met_numbers(FILE *to, const tally *t, form f)
+{
+    bool all = true;
+    for (int i = 0; i < CALL_COUNT; i++) {
+        for (uint64_t number = 0; number < REPLY_NUMBERS; number++) {
+            if (form_gives(f, &CALLS[i], number)) {
+                char kind[32];
+                snprintf(kind, sizeof kind, "number %" PRIu64 " from ", number);
+                all &= met(to, t->replies[CALLS[i].code][number], kind, CALLS[i].name);
+            }
+        }
+    }
+    return all;
+}
+
+static bool met_commits(FILE *to, const tally *t)
+{
+    bool all = true;
+    for (int kind = 1; kind < ROUND_KINDS; kind++) {
+        for (int n = 1; n < STATION_COUNTS; n++) {
+            char stations[32];
+            snprintf(stations, sizeof stations, " with n = %d finished", n);
+            all &= met(to, t->commits[kind][n], ROUND_NAMES[kind], stations);
+        }
+    }
+    return all;
+}
+
+bool tally_met_all(FILE *to, const tally *t, form f)
+{
+    bool all = met_numbers(to, t, f);
+    all &= met_commits(to, t);
+    for (int m = 0; m < MET_COUNT; m++) {
+        all &= !form_meets(f, m) || met(to, t->met[m], "", METERS[m].name);
+    }
+    for (int clause = 0; clause < BROKEN_CLAUSES && (BY_HAND >> f & 1) != 0; clause++) {
+        all &= met(to, t->alone[clause], "broken alone: ", CLAUSES[clause]);
+    }
+    return all;
+}

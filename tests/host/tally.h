@@ -1,0 +1,75 @@
+/*
+ * What a run of lists has met. A run that has not met what its form should
+ * meet fails: it would have shown nothing.
+ */
+#ifndef TALLY_H
+#define TALLY_H
+
+#include "lists.h"
+#include "reference.h"
+
+/* Where lists come from. */
+typedef enum { FORM_RANDOM, FORM_DIRECTED, FORM_SEASON, FORM_FRAMES, FORMS } form;
+
+enum { ROUND_KINDS = 4, STATION_COUNTS = 1 + OSPREYSCREEN_STATIONS_MAX };
+
+/* Things that happen, counted one by one; names and forms stand in tally.c. */
+typedef enum {
+    MET_REACH_NOTHING,
+    MET_REACH_READ,
+    MET_REACH_READ_AND_WRITE,
+    MET_VERSION_TIE,
+    MET_GENERATION_TIE,
+    MET_REACH_TIE,
+    MET_DISJOINT_MOVE,
+    MET_MISSING_MOVE,
+    MET_STALE_POLL,
+    MET_DROP,
+    MET_DROP_OF_A_PUT,
+    MET_RETURN,
+    MET_SHORT_WRITE,
+    MET_SHORT_DATA,
+    MET_SHORT_CONFIGURATION,
+    MET_SPENT_VERSION,
+    MET_SPENT_GENERATION,
+    MET_BOOK,
+    MET_BYTES,
+    MET_RAISE,
+    MET_ODD_CONFIGURATION,
+    MET_FALSE_FRAME,
+    MET_COUNT
+} meter;
+
+typedef struct {
+    uint64_t lists;
+    uint64_t calls;
+    uint64_t replies[CALL_CODES][REPLY_NUMBERS];
+    uint64_t commits[ROUND_KINDS][STATION_COUNTS]; /* that finished, by kind and n */
+    uint64_t alone[BROKEN_CLAUSES]; /* calls on a table that breaks this clause and no other */
+    uint64_t met[MET_COUNT];
+} tally;
+
+/* What there is to see in a call before it is made, by the table. */
+typedef struct {
+    unsigned n;
+    unsigned round;
+    uint64_t broken;
+    bool met[MET_COUNT]; /* if the call replies 0 */
+    bool lacks_data;
+    bool lacks_configuration;
+} sight;
+
+/* Looks at the call and the table that it is about to be made on. One that
+ * the book covers is sound and has no ties. */
+sight tally_look(const call *c, const loan *table, bool covered);
+
+/* Counts the call, with what was seen before it. */
+void tally_call(tally *t, const sight *s, const call *c, const ospreyscreen_reply *reply);
+
+/* Prints what the form should meet, and how often it met it. */
+void tally_print(FILE *to, const tally *t, form f);
+
+/* Prints what the form should have met and has not; gives whether it met all. */
+bool tally_met_all(FILE *to, const tally *t, form f);
+
+#endif

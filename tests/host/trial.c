@@ -1,0 +1,239 @@
+#define _POSIX_C_SOURCE 200809L /* sigaction, sigsetjmp */
+
+#include "trial.h"
+
+#include <inttypes.h>
+#include <setjmp.h>
+#include <signal.h>
+#include <stdlib.h>
+#include <string.h>
+#include <sys/time.h>
+
+/* Where a call that faults or does not end comes back to. */
+static sigjmp_buf way_out;
+
+static void on_signal(int number)
+{
+    siglongjmp(way_out, number);
+}
+
+static void catch_signals(void)
+{
+    static const int numbers[] = {SIGSEGV, SIGBUS, SIGILL, SIGFPE, SIGVTALRM};
+    struct sigaction action = {.sa_handler = on_signal, .sa_flags = SA_NODEFER};
+    for (size_t i = 0; i < sizeof numbers / sizeof numbers[0]; i++) {
+        sigaction(numbers[i], &action, NULL);
+    }
+}
+
+/* Gives the program so much time of its own; none switches the clock off. */
+static void set_clock(unsigned seconds)
+{
+    struct itimerval time = {.it_value.tv_sec = (time_t)seconds};
+    setitimer(ITIMER_VIRTUAL, &time, NULL);
+}
+
+trial trial_make(const implementation *tested, const implementation *reference)
+{
+    catch_signals();
+    return (trial){.tested = run_make(tested), .reference = run_make(reference)};
+}
+
+/* ---- One step ---- */
+
+static bool same_reply(const ospreyscreen_reply *a, const ospreyscreen_reply *b)
+{
+    return a->number == b->number && a->first == b->first && a->second == b->second &&
+           a->third == b->third;
+}
+
+/* Feeds the book, and holds a finished round to it. */
+static bool in_book(trial *t, const call *c, tally *counts)
+{
+    book *b = &t->one_copy;
+
+    if (c->code == OSPREYSCREEN_LAY && t->got.number == OSPREYSCREEN_DONE) {
+        t->covered = true;
+        memset(t->raised_version, 0, sizeof t->raised_version);
+        memset(t->raised_generation, 0, sizeof t->raised_generation);
+    }
+    if (!t->covered) {
+        return true;
+    }
+    int noted = b->noted;
+    book_step(b, c, t->got.number);
+    if (c->code != OSPREYSCREEN_COMMIT || t->got.number != OSPREYSCREEN_DONE) {
+        return true;
+    }
+    if (counts != NULL) {
+        counts->met[MET_BOOK]++;
+    }
+    const book_item *item = &b->items[b->noted_item];
+    return noted != OSPREYSCREEN_ROUND_NONE && t->got.first == item->value &&
+           t->got.second - t->raised_version[b->noted_item] == item->writes &&
+           t->got.third - t->raised_generation[b->noted_item] == item->changes;
+}
+
+/* Makes the call in both runs; gives what is wrong, or a null pointer. */
+static const char *make_call(trial *t, const step *s, tally *counts)
+{
+    const call *c = &s->made;
+    lent_kind kind;
+    size_t at;
+
+    run_lend(&t->reference, s);
+    run_lend(&t->tested, s);
+    sight seen = {0};
+    if (counts != NULL) {
+        seen = tally_look(c, &t->reference.lent[LENT_TABLE], t->covered);
+    }
+    t->want = run_call(&t->reference, c);
+    t->got = run_call(&t->tested, c);
+    if (!same_reply(&t->got, &t->want)) {
+        return "the replies differ";
+    }
+    if (!call_can_give(shape_of(c), t->got.number)) {
+        return "the header does not give this number to this call";
+    }
+    if (runs_differ(&t->tested, &t->reference, &kind, &at)) {
+        return "the bytes differ";
+    }
+    if (!run_intact(&t->tested) || !run_intact(&t->reference)) {
+        return "a byte outside the lent ones has changed";
+    }
+    if (counts != NULL) {
+        tally_call(counts, &seen, c, &t->got);
+    }
+    return in_book(t, c, counts) ? NULL : "a finished round differs from the book";
+}
+
+/* Does to both tables what the step says. */
+static void change_tables(trial *t, const step *s, tally *counts)
+{
+    bool done = run_change(&t->reference, s);
+    run_change(&t->tested, s);
+    if (s->kind == STEP_BYTES) {
+        t->covered = false;
+    } else if (done && s->raised == COUNTER_VERSION) {
+        t->raised_version[s->item] += s->by;
+    } else if (done) {
+        t->raised_generation[s->item] += s->by;
+    }
+    if (done && counts != NULL) {
+        counts->met[s->kind == STEP_BYTES ? MET_BYTES : MET_RAISE]++;
+    }
+}
+
+/* ---- One list ---- */
+
+static void begin(trial *t, const list *l)
+{
+    run_begin(&t->reference, l);
+    run_begin(&t->tested, l);
+    t->one_copy = (book){0};
+    t->covered = false;
+    t->why = NULL;
+}
+
+static void run_steps(trial *t, const list *l, tally *counts)
+{
+    for (t->index = 0; t->index < l->count && t->why == NULL; t->index++) {
+        const step *s = &l->steps[t->index];
+        if (s->kind != STEP_CALL) {
+            change_tables(t, s, counts);
+            continue;
+        }
+        t->why = make_call(t, s, counts);
+    }
+}
+
+bool trial_passes(trial *t, const list *l, tally *counts, unsigned seconds)
+{
+    begin(t, l);
+    int number = sigsetjmp(way_out, 0);
+    if (number == 0) {
+        set_clock(seconds);
+        run_steps(t, l, counts);
+    } else {
+        t->got = (ospreyscreen_reply){0};
+        t->why = number == SIGVTALRM ? "a call did not end" : "a call faulted";
+        t->index++;
+    }
+    set_clock(0);
+    if (counts != NULL) {
+        counts->lists++;
+    }
+    return t->why == NULL;
+}
+
+/* ---- Shrinking ---- */
+
+enum { SHRINK_SECONDS = 2 };
+
+/* Leaves out steps from one on, and keeps that if the list still fails. */
+static bool leave_out(trial *t, list *l, size_t from, size_t count, step *room)
+{
+    size_t before = l->count;
+    memcpy(room, l->steps, before * sizeof *room);
+    memmove(l->steps + from, l->steps + from + count, (before - from - count) * sizeof *l->steps);
+    l->count = before - count;
+    if (trial_passes(t, l, NULL, SHRINK_SECONDS)) {
+        memcpy(l->steps, room, before * sizeof *room);
+        l->count = before;
+        return false;
+    }
+    l->count = t->index; /* nothing behind the step that fails */
+    return true;
+}
+
+/* One walk over the list with pieces of one size; gives whether any went. */
+static bool leave_out_pieces(trial *t, list *l, size_t size, step *room)
+{
+    bool any = false;
+    for (size_t from = 0; from + size <= l->count;) {
+        if (leave_out(t, l, from, size, room)) {
+            any = true;
+        } else {
+            from += size;
+        }
+    }
+    return any;
+}
+
+void trial_shrink(trial *t, list *l)
+{
+    step *room = malloc(l->count * sizeof *room);
+    if (room == NULL) {
+        return;
+    }
+    l->count = t->index;
+    for (size_t size = l->count; size > 0; size /= 2) {
+        while (leave_out_pieces(t, l, size, room)) {
+        }
+    }
+    free(room);
+    trial_passes(t, l, NULL, SHRINK_SECONDS);
+}
+
+/* ---- The report ---- */
+
+static void print_reply(const char *who, const ospreyscreen_reply *r)
+{
+    printf("%s: number %" PRIu64 ", figures %" PRIu64 " %" PRIu64 " %" PRIu64 "\n", who, r->number,
+           r->first, r->second, r->third);
+}
+
+void trial_tell(const trial *t, const list *l)
+{
+    lent_kind kind;
+    size_t at;
+
+    printf("%s, in step %zu of %zu\n", t->why, t->index, l->count);
+    print_reply(t->tested.with->name, &t->got);
+    print_reply(t->reference.with->name, &t->want);
+    if (runs_differ(&t->tested, &t->reference, &kind, &at)) {
+        printf("byte %zu of the %s: %02X, not %02X\n", at, LENT[kind].name,
+               t->tested.lent[kind].bytes[at], t->reference.lent[kind].bytes[at]);
+    }
+    list_write(stdout, l);
+}
