@@ -3,15 +3,13 @@
  *
  *   clean_frames --stations n --items m [--lines N]
  *
- * One lay, then whole reads and writes only, through the lowest majority: all
- * configurations stay alike, so every part of the script costs the same.
+ * One lay, then whole reads and writes only: all configurations stay alike, so
+ * every part of the script costs the same.
  */
-#include "bytes.h"
 #include "calls.h"
 #include "configurations.h"
 #include "options.h"
 
-#include <inttypes.h>
 #include <stdio.h>
 #include <stdlib.h>
 
@@ -23,10 +21,10 @@ typedef struct {
 } writer;
 
 /* Writes the call while lines are left. */
-static void write_call(writer *w, const call *c)
+static void write_call(writer *w, call c)
 {
     uint8_t frame[FRAME_MOST];
-    size_t length = call_to_frame(c, frame);
+    size_t length = call_to_frame(&c, frame);
 
     if (w->left == 0) {
         return;
@@ -41,40 +39,29 @@ static void write_call(writer *w, const call *c)
 static void write_lay(writer *w)
 {
     uint8_t config[OSPREYSCREEN_CONFIGURATION_LENGTH];
-    call c = {.code = OSPREYSCREEN_LAY, .config = config, .config_len = sizeof config};
+    uint64_t value = rng_any_width(&w->source);
 
-    c.numbers[ARGUMENT_N] = w->stations;
-    c.numbers[ARGUMENT_M] = w->items;
-    c.numbers[ARGUMENT_VALUE] = rng_any_width(&w->source);
     configuration_majorities(&w->source, (unsigned)w->stations, config);
-    write_call(w, &c);
+    write_call(w, call_lay(w->stations, w->items, value, config));
 }
 
-/* The call for each station of the lowest majority. */
-static void write_majority(writer *w, int code)
-{
-    call c = {.code = code};
-    c.numbers[ARGUMENT_SORT] = OSPREYSCREEN_PUT_DATA;
-    for (uint64_t station = 0; station < w->stations / 2 + 1; station++) {
-        c.numbers[ARGUMENT_STATION] = station;
-        write_call(w, &c);
-    }
-}
-
+/* A read or a write through the lowest majority. */
 static void write_round(writer *w)
 {
     rng *r = &w->source;
+    uint64_t majority = w->stations / 2 + 1;
+    uint64_t item = rng_below(r, w->items);
+    uint64_t value = rng_any_width(r);
     bool write = rng_one_in(r, 2);
-    call opening = {.code = write ? OSPREYSCREEN_OPEN_WRITE : OSPREYSCREEN_OPEN_READ};
 
-    opening.numbers[ARGUMENT_ITEM] = rng_below(r, w->items);
-    opening.numbers[ARGUMENT_VALUE] = rng_any_width(r);
-    write_call(w, &opening);
-    write_majority(w, OSPREYSCREEN_POLL);
-    if (write) {
-        write_majority(w, OSPREYSCREEN_PUT);
+    write_call(w, write ? call_open_write(item, value) : call_open_read(item));
+    for (uint64_t station = 0; station < majority; station++) {
+        write_call(w, call_poll(station));
     }
-    write_call(w, &(call){.code = OSPREYSCREEN_COMMIT});
+    for (uint64_t station = 0; write && station < majority; station++) {
+        write_call(w, call_put(station, OSPREYSCREEN_PUT_DATA));
+    }
+    write_call(w, call_commit());
 }
 
 int main(int argc, char **argv)

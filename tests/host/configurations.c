@@ -67,7 +67,9 @@ void configuration_majorities(rng *r, unsigned n, uint8_t out[OSPREYSCREEN_CONFI
 /* A set that is not empty; about a third of the stations. */
 static unsigned random_set(rng *r, unsigned stations)
 {
-    return 1u << station_of(r, stations) | (part_of(r, stations) & part_of(r, stations));
+    unsigned one = 1u << station_of(r, stations);
+    unsigned part = part_of(r, stations);
+    return one | part_of(r, part);
 }
 
 void configuration_among(rng *r, unsigned stations, uint8_t out[OSPREYSCREEN_CONFIGURATION_LENGTH])

@@ -2,29 +2,9 @@
 
 #include "bytes.h"
 #include "configurations.h"
+#include "fields.h"
 
 #include <string.h>
-
-enum {
-    HEAD = OSPREYSCREEN_HEAD_LENGTH,
-    COPY = OSPREYSCREEN_COPY_LENGTH,
-    CONFIGURATION = OSPREYSCREEN_CONFIGURATION_LENGTH,
-    /* Offsets in the head. */
-    OFF_AT = 2,
-    ROUND_AT = 4,
-    ITEM_AT = 5,
-    POLLED_AT = 6,
-    DATA_AT = 8,
-    PUTS_AT = 10, /* of configurations */
-    ZEROS_AT = 12,
-    VALUE_AT = 16,
-    TARGET_AT = 24,
-    /* Offsets in a copy. */
-    VERSION_IN = 0,
-    VALUE_IN = 8,
-    GENERATION_IN = 16,
-    CONFIGURATION_IN = 24
-};
 
 static unsigned stations_in(const uint8_t *table)
 {
@@ -33,7 +13,7 @@ static unsigned stations_in(const uint8_t *table)
 
 static uint8_t *copy_in(uint8_t *table, unsigned item, unsigned station)
 {
-    return table + HEAD + (size_t)COPY * (item * table[0] + station);
+    return table + copy_at(table[N_AT], item, station);
 }
 
 /* A random copy of the table. */
@@ -174,7 +154,7 @@ static void make_disjoint(rng *r, uint8_t *config, unsigned n)
     unsigned read = (unsigned)rng_below(r, first_unused(config, READ_SIDE));
     unsigned write = (unsigned)rng_below(r, first_unused(config, WRITE_SIDE));
 
-    part |= part_of(r, all_stations(n) & ~part) & part_of(r, all_stations(n));
+    part |= part_of(r, part_of(r, all_stations(n)));
     part = part == all_stations(n) ? 1 : part;
     configuration_set_to(config, READ_SIDE + read, part);
     configuration_set_to(config, WRITE_SIDE + write, all_stations(n) & ~part);
@@ -245,17 +225,18 @@ static bool put_on(rng *r, uint8_t *table, unsigned at)
     return true;
 }
 
-static bool set_value(rng *r, uint8_t *table)
+/* One bit of so many bytes. */
+static void set_a_bit(rng *r, uint8_t *bytes, size_t count)
 {
-    table[VALUE_AT + rng_below(r, 8)] = (uint8_t)(1u << rng_below(r, 8));
-    return true;
+    size_t at = rng_below(r, count);
+    bytes[at] = (uint8_t)(1u << rng_below(r, 8));
 }
 
 /* A target where there is to be none: one bit, or a whole one. */
 static bool set_target(rng *r, uint8_t *table)
 {
     if (rng_one_in(r, 2)) {
-        table[TARGET_AT + rng_below(r, CONFIGURATION)] = (uint8_t)(1u << rng_below(r, 8));
+        set_a_bit(r, table + TARGET_AT, CONFIGURATION);
     } else {
         fill_configuration(r, table + TARGET_AT, stations_in(table));
     }
@@ -332,13 +313,14 @@ static bool break_head(rng *r, uint8_t *table, broken_clause clause)
     case BROKEN_NONE_VALUE:
     case BROKEN_READ_VALUE:
     case BROKEN_CHANGE_VALUE:
-        return set_value(r, table);
+        set_a_bit(r, table + VALUE_AT, 8);
+        return true;
     case BROKEN_NONE_TARGET:
     case BROKEN_READ_TARGET:
     case BROKEN_WRITE_TARGET:
         return set_target(r, table);
     case BROKEN_ZEROS:
-        table[ZEROS_AT + rng_below(r, 4)] = (uint8_t)(1u << rng_below(r, 8));
+        set_a_bit(r, table + ZEROS_AT, 4);
         return true;
     default: /* the length, n and m are not bytes to break alone */
         return false;

@@ -4,23 +4,11 @@
 #include "configurations.h"
 #include "damage.h"
 #include "draw.h"
+#include "fields.h"
 
 #include <string.h>
 
-enum {
-    HEAD = OSPREYSCREEN_HEAD_LENGTH,
-    COPY = OSPREYSCREEN_COPY_LENGTH,
-    CONFIGURATION = OSPREYSCREEN_CONFIGURATION_LENGTH,
-    STATIONS = OSPREYSCREEN_STATIONS_MAX,
-    ITEMS = OSPREYSCREEN_ITEMS_MAX,
-    OFF_AT = 2,
-    ROUND_AT = 4,
-    POLLED_AT = 6,
-    DATA_AT = 8,
-    PUTS_AT = 10,
-    TARGET_AT = 24,
-    CONFIGURATION_IN = 24
-};
+enum { STATIONS = OSPREYSCREEN_STATIONS_MAX, ITEMS = OSPREYSCREEN_ITEMS_MAX };
 
 /* The table that the calls of a list are made on, each time anew. */
 static uint8_t scene[TABLE_ROOM];
@@ -32,7 +20,7 @@ static size_t scene_length(void)
 
 static uint8_t *scene_copy(unsigned item, unsigned station)
 {
-    return scene + HEAD + (size_t)COPY * (item * scene[0] + station);
+    return scene + copy_at(scene[N_AT], item, station);
 }
 
 /* Starts a list with a sound table of n stations and m items, no round. */
@@ -91,10 +79,10 @@ static call fitting_call(generator *g, const call_shape *shape, unsigned n, unsi
 }
 
 /* Sets the scene and makes the call on it. */
-static void call_on_scene(generator *g, const call *c)
+static void call_on_scene(generator *g, call c)
 {
     set_scene(g);
-    generate_step(g, c);
+    generate_step(g, &c);
 }
 
 /* Every call on the scene, which need not be sound. */
@@ -103,69 +91,63 @@ static void every_call(generator *g)
     unsigned n = scene[0] >= 1 && scene[0] <= STATIONS ? scene[0] : STATIONS;
     unsigned m = scene[1] >= 1 ? scene[1] : 1;
     for (int i = 0; i < CALL_COUNT; i++) {
-        call c = fitting_call(g, &CALLS[i], n, m);
-        call_on_scene(g, &c);
+        call_on_scene(g, fitting_call(g, &CALLS[i], n, m));
     }
 }
 
-static void make(generator *g, int code, argument kind, uint64_t number)
+/* Calls with arguments in range or not, on the scene. */
+static void any_calls(generator *g)
 {
-    call c = {.code = code};
-    c.numbers[kind] = number;
-    generate_step(g, &c);
+    enum { TIMES = 5 };
+    for (int time = 0; time < TIMES; time++) {
+        call_on_scene(g, generate_any_call(g, scene[0], scene[1]));
+    }
 }
 
-static void put(generator *g, unsigned station, int sort)
+static void make(generator *g, call c)
 {
-    call c = {.code = OSPREYSCREEN_PUT};
-    c.numbers[ARGUMENT_STATION] = station;
-    c.numbers[ARGUMENT_SORT] = (uint64_t)sort;
     generate_step(g, &c);
 }
 
 static void poll_all(generator *g, unsigned n)
 {
     for (unsigned station = 0; station < n; station++) {
-        make(g, OSPREYSCREEN_POLL, ARGUMENT_STATION, station);
+        make(g, call_poll(station));
     }
 }
 
+/* An opening and a lay whose configurations may have any length. */
 static void open_change(generator *g, uint64_t item, const uint8_t *target, size_t len)
 {
-    call c = {.code = OSPREYSCREEN_OPEN_CHANGE, .config = target, .config_len = len};
-    c.numbers[ARGUMENT_ITEM] = item;
-    generate_step(g, &c);
+    call c = call_open_change(item, target);
+    c.config_len = len;
+    make(g, c);
 }
 
 static void lay(generator *g, uint64_t n, uint64_t m, const uint8_t *config, size_t len)
 {
-    call c = {.code = OSPREYSCREEN_LAY, .config = config, .config_len = len};
-    c.numbers[ARGUMENT_N] = n;
-    c.numbers[ARGUMENT_M] = m;
-    c.numbers[ARGUMENT_VALUE] = rng_next(&g->source);
-    generate_step(g, &c);
+    call c = call_lay(n, m, rng_next(&g->source), config);
+    c.config_len = len;
+    make(g, c);
 }
 
 /* ---- Sizes ---- */
 
 static void write_round(generator *g, unsigned n, unsigned item)
 {
-    call c = {.code = OSPREYSCREEN_OPEN_WRITE};
-    c.numbers[ARGUMENT_ITEM] = item;
-    c.numbers[ARGUMENT_VALUE] = rng_next(&g->source);
-    generate_step(g, &c);
+    make(g, call_open_write(item, rng_next(&g->source)));
     poll_all(g, n);
     for (unsigned station = 0; station < n; station++) {
-        put(g, station, OSPREYSCREEN_PUT_DATA);
+        make(g, call_put(station, OSPREYSCREEN_PUT_DATA));
     }
-    make(g, OSPREYSCREEN_COMMIT, ARGUMENT_N, 0);
+    make(g, call_commit());
 }
 
 static void read_round(generator *g, unsigned n, unsigned item)
 {
-    make(g, OSPREYSCREEN_OPEN_READ, ARGUMENT_ITEM, item);
+    make(g, call_open_read(item));
     poll_all(g, n);
-    make(g, OSPREYSCREEN_COMMIT, ARGUMENT_N, 0);
+    make(g, call_commit());
 }
 
 /* A change to the target with both puts at every station. */
@@ -174,10 +156,10 @@ static void change_round(generator *g, unsigned n, unsigned item, const uint8_t 
     open_change(g, item, target, CONFIGURATION);
     poll_all(g, n);
     for (unsigned station = 0; station < n; station++) {
-        put(g, station, OSPREYSCREEN_PUT_DATA);
-        put(g, station, OSPREYSCREEN_PUT_CONFIGURATION);
+        make(g, call_put(station, OSPREYSCREEN_PUT_DATA));
+        make(g, call_put(station, OSPREYSCREEN_PUT_CONFIGURATION));
     }
-    make(g, OSPREYSCREEN_COMMIT, ARGUMENT_N, 0);
+    make(g, call_commit());
 }
 
 /* Every n and m: laid, and a round of each kind on the last item. */
@@ -188,12 +170,11 @@ static void every_size(generator *g, uint64_t index)
     uint8_t config[CONFIGURATION];
 
     record_table(&g->to, OSPREYSCREEN_TABLE_LENGTH(n, m), GUARD_AFTER, false);
-    call first = generate_lay(g, n, m);
-    generate_step(g, &first);
+    make(g, generate_lay(g, n, m));
     write_round(g, n, m - 1);
     draw_configuration(&g->source, n, config);
     change_round(g, n, m - 1, config);
-    make(g, OSPREYSCREEN_REACH, ARGUMENT_ITEM, m - 1);
+    make(g, call_reach(m - 1));
     read_round(g, n, m - 1);
     read_round(g, n, 0);
 }
@@ -218,27 +199,27 @@ static void false_size(generator *g, uint64_t index)
     lay(g, scene[0], scene[1], g->config, CONFIGURATION);
 }
 
-/* A sound table under every length from none to some bytes more than fit. */
+/* A sound table under every length from none to some bytes more than fit, at
+ * every place. */
+enum { LENGTH_N = 2, LENGTH_M = 2, LENGTHS = OSPREYSCREEN_TABLE_LENGTH(LENGTH_N, LENGTH_M) + 60 };
+
 static void every_length(generator *g, uint64_t index)
 {
-    enum { N = 2, M = 2, MORE = 60 };
-    size_t fit = OSPREYSCREEN_TABLE_LENGTH(N, M);
-    size_t len = index % (fit + MORE);
+    size_t len = index / GUARD_PLACES;
 
-    memset(scene, 0, fit + MORE);
-    damage_fresh(&g->source, scene, N, M);
+    memset(scene, 0, LENGTHS);
+    damage_fresh(&g->source, scene, LENGTH_N, LENGTH_M);
     record_table(&g->to, len, (guard_place)(index % GUARD_PLACES), index % 2 == 0);
     for (int i = 0; i < CALL_COUNT; i++) {
-        call c = fitting_call(g, &CALLS[i], N, M);
         record_bytes(&g->to, 0, scene, len);
-        generate_step(g, &c);
+        make(g, fitting_call(g, &CALLS[i], LENGTH_N, LENGTH_M));
     }
 }
-enum { EVERY_LENGTH_COUNT = OSPREYSCREEN_TABLE_LENGTH(2, 2) + 60 };
 
 /* ---- Soundness ---- */
 
-static const unsigned SIZES[][2] = {{1, 1}, {1, 2}, {2, 1}, {3, 2}, {7, 3}, {8, 2}, {9, 1}, {15, 2}, {16, 3}};
+static const unsigned SIZES[][2] = {{1, 1}, {1, 2}, {2, 1},  {3, 2}, {7, 3},
+                                    {8, 2}, {9, 1}, {15, 2}, {16, 3}};
 enum { SIZE_COUNT = sizeof SIZES / sizeof SIZES[0] };
 
 /* Each clause broken alone, many times, and every call on it. */
@@ -252,9 +233,10 @@ static void one_clause(generator *g, uint64_t index)
     set_scene(g);
     for (int time = 0; time < TIMES; time++) {
         damage_fresh(r, scene, size[0], size[1]);
-        set_set(scene + OFF_AT, part_of(r, all_stations(size[0])) & part_of(r, all_stations(size[0])));
+        set_set(scene + OFF_AT, part_of(r, part_of(r, all_stations(size[0]))));
         if (damage_clause(r, scene, (broken_clause)(index % BROKEN_CLAUSES))) {
             every_call(g);
+            any_calls(g);
         }
     }
 }
@@ -300,15 +282,16 @@ static void configuration_everywhere(generator *g, const uint8_t *config)
     open_change(g, 0, config, CONFIGURATION);
     lay(g, n, m, config, CONFIGURATION);
     damage_fresh(r, scene, n, m);
-    memcpy(scene_copy((unsigned)rng_below(r, m), (unsigned)rng_below(r, n)) + CONFIGURATION_IN, config,
-           CONFIGURATION);
+    unsigned item = (unsigned)rng_below(r, m);
+    unsigned station = (unsigned)rng_below(r, n);
+    memcpy(scene_copy(item, station) + CONFIGURATION_IN, config, CONFIGURATION);
     set_scene(g);
-    make(g, OSPREYSCREEN_REACH, ARGUMENT_ITEM, 0);
+    make(g, call_reach(0));
     damage_fresh(r, scene, n, m);
     damage_round(r, scene, OSPREYSCREEN_ROUND_CHANGE);
     memcpy(scene + TARGET_AT, config, CONFIGURATION);
     set_scene(g);
-    make(g, OSPREYSCREEN_ABANDON, ARGUMENT_N, 0);
+    make(g, call_abandon());
     damage_fresh(r, scene, n, m);
 }
 
@@ -318,17 +301,19 @@ static void disjoint_pair(rng *r, uint8_t *config, unsigned n, unsigned read, un
 {
     unsigned read_used = read + 1 + (unsigned)rng_below(r, PLACES - read);
     unsigned write_used = write + 1 + (unsigned)rng_below(r, PLACES - write);
-    unsigned part = 1u << rng_below(r, n);
+    unsigned all = all_stations(n);
+    unsigned part = draw_some(r, all);
 
-    part |= part_of(r, all_stations(n));
-    part = part == all_stations(n) ? 1u << rng_below(r, n) : part;
+    part = part == all ? 1u << rng_below(r, n) : part;
     memset(config, 0, CONFIGURATION);
     for (unsigned place = 0; place < read_used; place++) {
-        configuration_set_to(config, READ_SIDE + place, place == read ? part : all_stations(n));
+        configuration_set_to(config, READ_SIDE + place, all);
     }
     for (unsigned place = 0; place < write_used; place++) {
-        configuration_set_to(config, WRITE_SIDE + place, place == write ? all_stations(n) & ~part : all_stations(n));
+        configuration_set_to(config, WRITE_SIDE + place, all);
     }
+    configuration_set_to(config, READ_SIDE + read, part);
+    configuration_set_to(config, WRITE_SIDE + write, all & ~part);
 }
 
 /* Every pair of places of the eight by eight, for every n. */
@@ -428,11 +413,77 @@ static void one_argument(generator *g, uint64_t index)
                 call c = fitting_call(g, &CALLS[i], size[0], size[1]);
                 if (CALLS[i].arguments[k] != ARGUMENT_CONFIGURATION) {
                     c.numbers[CALLS[i].arguments[k]] = number;
-                    call_on_scene(g, &c);
+                    call_on_scene(g, c);
                 }
             }
         }
     }
+}
+
+/* ---- Refusals ---- */
+
+/* Every station that a poll, put or link can be refused for, and every sort
+ * and state beside the listed ones. */
+static void calls_at_stations(generator *g, unsigned n)
+{
+    unsigned off = get_set(scene + OFF_AT);
+    unsigned on = all_stations(n) & ~off;
+    const uint64_t stations[] = {station_of(&g->source, on), station_of(&g->source, off), n, 256};
+
+    for (int i = 0; i < 4; i++) {
+        call_on_scene(g, call_poll(stations[i]));
+        for (uint64_t choice = 0; choice < 4; choice++) {
+            call_on_scene(g, call_put(stations[i], choice));
+            call_on_scene(g, call_link(stations[i], choice));
+        }
+    }
+}
+
+/* Openings and reach of an item that is there and of one that is not, with a
+ * target that is valid and ones that are not. */
+static void calls_at_items(generator *g, unsigned n, unsigned m)
+{
+    uint8_t target[CONFIGURATION];
+    uint8_t false_target[CONFIGURATION] = {0};
+
+    draw_configuration(&g->source, n, target);
+    for (uint64_t item = 0; item <= m; item += m) {
+        call short_change = call_open_change(item, target);
+        short_change.config_len--;
+        call_on_scene(g, call_open_read(item));
+        call_on_scene(g, call_open_write(item, rng_next(&g->source)));
+        call_on_scene(g, call_open_change(item, target));
+        call_on_scene(g, call_open_change(item, false_target));
+        call_on_scene(g, short_change);
+        call_on_scene(g, call_reach(item));
+    }
+}
+
+/* Calls that more than one refusal applies to: in each kind of round, with
+ * and without polls, puts, counters left, and a sound table. */
+static void many_refusals(generator *g, uint64_t index)
+{
+    rng *r = &g->source;
+    unsigned n = 2 + (unsigned)index / 64 % 7;
+    unsigned kind = (unsigned)index % 4;
+    unsigned off = 1u << rng_below(r, n);
+    unsigned puts = kind < OSPREYSCREEN_ROUND_WRITE || (index & 4) != 0 ? 0 : all_stations(n) & ~off;
+
+    begin(g, n, 2);
+    set_set(scene + OFF_AT, off);
+    damage_round(r, scene, kind);
+    set_set(scene + DATA_AT, puts);
+    set_set(scene + PUTS_AT, kind == OSPREYSCREEN_ROUND_CHANGE ? puts : 0);
+    set_set(scene + POLLED_AT, kind == 0 || (index & 8) != 0 ? 0 : all_stations(n));
+    for (unsigned station = 0; station < n && (index & 16) != 0; station++) {
+        set_number(scene_copy(scene[ITEM_AT], station) + COUNTER_VERSION, 8, UINT64_MAX);
+        set_number(scene_copy(scene[ITEM_AT], station) + COUNTER_GENERATION, 8, UINT64_MAX);
+    }
+    scene[ZEROS_AT] = (index & 32) != 0;
+    calls_at_stations(g, n);
+    calls_at_items(g, n, 2);
+    call_on_scene(g, call_commit());
+    call_on_scene(g, call_abandon());
 }
 
 /* ---- Copies ---- */
@@ -454,11 +505,10 @@ static void begin_copies(generator *g, unsigned n)
 static void look_at_copies(generator *g)
 {
     unsigned n = scene[0];
-    call commit = {.code = OSPREYSCREEN_COMMIT};
 
     for (unsigned kind = OSPREYSCREEN_ROUND_READ; kind <= OSPREYSCREEN_ROUND_CHANGE; kind++) {
         damage_round(&g->source, scene, kind);
-        scene[ROUND_AT + 1] = 0;
+        scene[ITEM_AT] = 0;
         set_set(scene + POLLED_AT, all_stations(n));
         if (kind != OSPREYSCREEN_ROUND_READ) {
             set_set(scene + DATA_AT, all_stations(n));
@@ -466,17 +516,14 @@ static void look_at_copies(generator *g)
         if (kind == OSPREYSCREEN_ROUND_CHANGE) {
             set_set(scene + PUTS_AT, all_stations(n));
         }
-        call_on_scene(g, &commit);
+        call_on_scene(g, call_commit());
     }
     damage_round(&g->source, scene, OSPREYSCREEN_ROUND_NONE);
     set_scene(g);
     for (unsigned station = 0; station < n; station++) {
-        call off = {.code = OSPREYSCREEN_LINK};
-        off.numbers[ARGUMENT_STATION] = station;
-        generate_step(g, &off);
-        make(g, OSPREYSCREEN_REACH, ARGUMENT_ITEM, 0);
-        off.numbers[ARGUMENT_STATE] = OSPREYSCREEN_LINK_ON;
-        generate_step(g, &off);
+        make(g, call_link(station, OSPREYSCREEN_LINK_OFF));
+        make(g, call_reach(0));
+        make(g, call_link(station, OSPREYSCREEN_LINK_ON));
     }
 }
 
@@ -543,9 +590,9 @@ static void spent_counters(generator *g, uint64_t index)
         damage_round(r, scene, kind);
         set_set(scene + POLLED_AT, all_stations(n));
         set_scene(g);
-        put(g, (unsigned)rng_below(r, n), OSPREYSCREEN_PUT_DATA);
-        put(g, (unsigned)rng_below(r, n), OSPREYSCREEN_PUT_CONFIGURATION);
-        make(g, OSPREYSCREEN_COMMIT, ARGUMENT_N, 0);
+        make(g, call_put(rng_below(r, n), OSPREYSCREEN_PUT_DATA));
+        make(g, call_put(rng_below(r, n), OSPREYSCREEN_PUT_CONFIGURATION));
+        make(g, call_commit());
     }
     look_at_copies(g);
 }
@@ -564,8 +611,8 @@ static void every_off_set(generator *g, uint64_t index)
         uint8_t set[2];
         set_set(set, off);
         record_bytes(&g->to, OFF_AT, set, sizeof set);
-        make(g, OSPREYSCREEN_REACH, ARGUMENT_ITEM, 0);
-        make(g, OSPREYSCREEN_REACH, ARGUMENT_ITEM, 1);
+        make(g, call_reach(0));
+        make(g, call_reach(1));
     }
 }
 
@@ -573,7 +620,6 @@ static void every_off_set(generator *g, uint64_t index)
 static void every_put_set(generator *g, uint64_t index)
 {
     enum { N = 4, M = 3 };
-    call commit = {.code = OSPREYSCREEN_COMMIT};
 
     begin(g, N, M);
     unsigned kind = OSPREYSCREEN_ROUND_WRITE + (unsigned)index % 2;
@@ -583,7 +629,7 @@ static void every_put_set(generator *g, uint64_t index)
         for (unsigned config = 0; config <= all_stations(N); config++) {
             set_set(scene + DATA_AT, data);
             set_set(scene + PUTS_AT, kind == OSPREYSCREEN_ROUND_CHANGE ? config : 0);
-            call_on_scene(g, &commit);
+            call_on_scene(g, call_commit());
         }
     }
 }
@@ -598,10 +644,10 @@ static void any_sound_table(generator *g, uint64_t index)
     begin(g, n, m);
     for (unsigned kind = 0; kind < 4; kind++) {
         damage_fresh(r, scene, n, m);
-        set_set(scene + OFF_AT, part_of(r, all_stations(n)) & part_of(r, all_stations(n)));
+        set_set(scene + OFF_AT, part_of(r, part_of(r, all_stations(n))));
         damage_round(r, scene, kind);
         if (rng_one_in(r, 2)) {
-            damage_tie(r, scene, scene[ROUND_AT + 1]);
+            damage_tie(r, scene, scene[ITEM_AT]);
         }
         if (rng_one_in(r, 4)) {
             damage_counters(r, scene, scene_length());
@@ -614,6 +660,7 @@ static void any_sound_table(generator *g, uint64_t index)
             set_set(scene + POLLED_AT, all_stations(n));
         }
         every_call(g);
+        any_calls(g);
     }
 }
 
@@ -623,11 +670,10 @@ static void moves(generator *g, uint64_t index)
 {
     rng *r = &g->source;
     unsigned n = 2 + (unsigned)index % (STATIONS - 1);
-    unsigned low = 1u << rng_below(r, n);
+    unsigned low = draw_some(r, all_stations(n));
     uint8_t here[CONFIGURATION];
     uint8_t there[CONFIGURATION];
 
-    low |= part_of(r, all_stations(n));
     low = low == all_stations(n) ? 1 : low;
     configuration_among(r, low, here);
     configuration_among(r, all_stations(n) & ~low, there);
@@ -636,7 +682,7 @@ static void moves(generator *g, uint64_t index)
     for (int turn = 0; turn < 3; turn++) {
         write_round(g, n, 0);
         change_round(g, n, 0, turn % 2 == 0 ? there : here);
-        make(g, OSPREYSCREEN_REACH, ARGUMENT_ITEM, 0);
+        make(g, call_reach(0));
         read_round(g, n, 0);
     }
 }
@@ -648,25 +694,27 @@ typedef struct {
     uint64_t count;
 } group;
 
+/* What finds most comes first. */
 static const group GROUPS[] = {
-    {every_size, (uint64_t)STATIONS * ITEMS},
-    {false_size, FALSE_SIZE_COUNT},
-    {every_length, EVERY_LENGTH_COUNT},
+    {many_refusals, (uint64_t)64 * 7 * 3},
+    {moves, (uint64_t)20 * (STATIONS - 1)},
+    {any_sound_table, 4800},
     {one_clause, (uint64_t)SIZE_COUNT * BROKEN_CLAUSES},
-    {byte_of_small, 4 * OSPREYSCREEN_TABLE_LENGTH(3, 2)},
-    {byte_of_large, 4 * OSPREYSCREEN_TABLE_LENGTH(16, 1)},
+    {every_length, (uint64_t)GUARD_PLACES * LENGTHS},
+    {false_size, FALSE_SIZE_COUNT},
+    {every_size, (uint64_t)STATIONS * ITEMS},
+    {one_argument, (uint64_t)4 * ARGUMENT_NUMBERS},
+    {configuration_length, 1 + CONFIGURATION_ROOM},
+    {spent_counters, (uint64_t)9 * STATIONS},
+    {one_counter, (uint64_t)27 * 16},
+    {one_tie, (uint64_t)STATIONS * STATIONS * (STATIONS - 1)},
+    {every_off_set, 80},
+    {every_put_set, 40},
     {one_pair, (uint64_t)PLACES * PLACES * (STATIONS - 1)},
     {foreign_stations, (uint64_t)2 * PLACES * (STATIONS - 1)},
     {used_places, (uint64_t)512 * STATIONS},
-    {configuration_length, 1 + CONFIGURATION_ROOM},
-    {one_argument, (uint64_t)4 * ARGUMENT_NUMBERS},
-    {one_tie, (uint64_t)STATIONS * STATIONS * (STATIONS - 1)},
-    {one_counter, (uint64_t)27 * 16},
-    {spent_counters, (uint64_t)9 * STATIONS},
-    {every_off_set, 80},
-    {every_put_set, 40},
-    {any_sound_table, 4800},
-    {moves, (uint64_t)20 * (STATIONS - 1)},
+    {byte_of_small, 4 * OSPREYSCREEN_TABLE_LENGTH(3, 2)},
+    {byte_of_large, 4 * OSPREYSCREEN_TABLE_LENGTH(16, 1)},
 };
 enum { GROUP_COUNT = sizeof GROUPS / sizeof GROUPS[0] };
 

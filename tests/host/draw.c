@@ -49,7 +49,8 @@ void draw_size(rng *r, unsigned *n, unsigned *m)
 
 unsigned draw_some(rng *r, unsigned stations)
 {
-    return 1u << station_of(r, stations) | part_of(r, stations);
+    unsigned one = 1u << station_of(r, stations);
+    return one | part_of(r, stations);
 }
 
 /* The read sets become the write sets and the other way round, now and then:

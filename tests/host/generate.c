@@ -26,13 +26,6 @@ static void draw_target(rng *r, const outlook *o, unsigned item, uint8_t *config
     draw_among(r, left, config);
 }
 
-/* The call's configuration is what stands in the generator's room. */
-static void give_configuration(generator *g, call *c)
-{
-    c->config = g->config;
-    c->config_len = OSPREYSCREEN_CONFIGURATION_LENGTH;
-}
-
 /* A number of stations in range for a configuration to be made with. */
 static unsigned stations_for(uint64_t n)
 {
@@ -84,7 +77,8 @@ static void draw_argument(generator *g, call *c, argument kind, unsigned n, unsi
         break;
     default:
         n = c->code == OSPREYSCREEN_LAY ? stations_for(c->numbers[ARGUMENT_N]) : n;
-        give_configuration(g, c);
+        c->config = g->config;
+        c->config_len = OSPREYSCREEN_CONFIGURATION_LENGTH;
         draw_configuration(r, n, g->config);
         if (rng_one_in(r, 2)) {
             draw_false(r, n, g->config, c);
@@ -93,8 +87,7 @@ static void draw_argument(generator *g, call *c, argument kind, unsigned n, unsi
     }
 }
 
-/* Any call with any arguments. */
-static call any_call(generator *g, unsigned n, unsigned m)
+call generate_any_call(generator *g, unsigned n, unsigned m)
 {
     const call_shape *shape = &CALLS[rng_below(&g->source, CALL_COUNT)];
     call c = {.code = shape->code};
@@ -107,34 +100,12 @@ static call any_call(generator *g, unsigned n, unsigned m)
 
 /* ---- Calls that fit where the round stands ---- */
 
-static call link_call(unsigned station, int state)
-{
-    call c = {.code = OSPREYSCREEN_LINK};
-    c.numbers[ARGUMENT_STATION] = station;
-    c.numbers[ARGUMENT_STATE] = (uint64_t)state;
-    return c;
-}
-
-static call poll_call(unsigned station)
-{
-    call c = {.code = OSPREYSCREEN_POLL};
-    c.numbers[ARGUMENT_STATION] = station;
-    return c;
-}
-
-static call reach_call(uint64_t item)
-{
-    call c = {.code = OSPREYSCREEN_REACH};
-    c.numbers[ARGUMENT_ITEM] = item;
-    return c;
-}
-
 /* A station returns; with none off, the call is a reach. */
 static call return_station(generator *g, const outlook *o)
 {
     rng *r = &g->source;
-    return o->off == 0 ? reach_call(rng_below(r, o->m))
-                       : link_call(station_of(r, o->off), OSPREYSCREEN_LINK_ON);
+    return o->off == 0 ? call_reach(rng_below(r, o->m))
+                       : call_link(station_of(r, o->off), OSPREYSCREEN_LINK_ON);
 }
 
 static void choose_write_sets(generator *g)
@@ -147,24 +118,20 @@ static call next_opening(generator *g, const outlook *o)
 {
     rng *r = &g->source;
     uint64_t kind = rng_below(r, 8);
-    call c = {0};
     /* The first two items get most rounds, so that their counters grow. */
     unsigned item = (unsigned)rng_below(r, rng_one_in(r, 3) || o->m < 2 ? o->m : 2);
 
     choose_write_sets(g);
-    c.numbers[ARGUMENT_ITEM] = item;
     if (kind < 3) {
-        c.code = OSPREYSCREEN_OPEN_READ;
-    } else if (kind < 5) {
-        c.code = OSPREYSCREEN_OPEN_WRITE;
-        c.numbers[ARGUMENT_VALUE] = draw_value(r);
-    } else {
-        c.code = OSPREYSCREEN_OPEN_CHANGE;
-        give_configuration(g, &c);
-        draw_target(r, o, item, g->config);
-        if (rng_one_in(r, 10)) {
-            draw_false(r, o->n, g->config, &c);
-        }
+        return call_open_read(item);
+    }
+    if (kind < 5) {
+        return call_open_write(item, draw_value(r));
+    }
+    call c = call_open_change(item, g->config);
+    draw_target(r, o, item, g->config);
+    if (rng_one_in(r, 10)) {
+        draw_false(r, o->n, g->config, &c);
     }
     return c;
 }
@@ -178,12 +145,12 @@ static call next_poll(generator *g, const outlook *o)
     unsigned aim = missing & configuration_stations(newest);
 
     if (o->off != 0 && rng_one_in(r, 20)) { /* refused */
-        return poll_call(station_of(r, o->off));
+        return call_poll(station_of(r, o->off));
     }
     if (missing != 0) {
-        return poll_call(station_of(r, aim != 0 && !rng_one_in(r, 3) ? aim : missing));
+        return call_poll(station_of(r, aim != 0 && !rng_one_in(r, 3) ? aim : missing));
     }
-    return o->off != 0 ? return_station(g, o) : (call){.code = OSPREYSCREEN_ABANDON};
+    return o->off != 0 ? return_station(g, o) : call_abandon();
 }
 
 /* A put at a station of the missing set. If that station is off it returns,
@@ -193,18 +160,15 @@ static call next_put(generator *g, const outlook *o, unsigned missing, int sort)
     rng *r = &g->source;
     unsigned station = station_of(r, missing);
     bool off = (o->off >> station & 1) != 0;
-    call c = {.code = OSPREYSCREEN_PUT};
 
     if (off && rng_one_in(r, 2)) {
-        return link_call(station, OSPREYSCREEN_LINK_ON);
+        return call_link(station, OSPREYSCREEN_LINK_ON);
     }
     if (off && o->on != 0 && !rng_one_in(r, 3)) {
         choose_write_sets(g);
         station = station_of(r, o->on);
     }
-    c.numbers[ARGUMENT_STATION] = station;
-    c.numbers[ARGUMENT_SORT] = (uint64_t)sort;
-    return c;
+    return call_put(station, (uint64_t)sort);
 }
 
 /* The stations of the write set aimed at where the put is missing. */
@@ -225,7 +189,7 @@ static call next_put_or_commit(generator *g, const outlook *o, const uint8_t *fo
     bool short_change = change && (data == 0) != (config == 0) && rng_one_in(r, 12);
 
     if ((data | config) == 0 || short_change) {
-        return (call){.code = OSPREYSCREEN_COMMIT};
+        return call_commit();
     }
     if (config == 0 || (data != 0 && rng_one_in(r, 2))) {
         return next_put(g, o, data, OSPREYSCREEN_PUT_DATA);
@@ -242,7 +206,7 @@ static call next_step(generator *g, const outlook *o)
         return next_opening(g, o);
     }
     if (rng_one_in(r, g->last == OSPREYSCREEN_SPENT ? 3 : 50)) {
-        return (call){.code = OSPREYSCREEN_ABANDON};
+        return call_abandon();
     }
     if (rng_one_in(r, 40)) { /* a put of either sort, in a read too */
         int sort = rng_one_in(r, 2) ? OSPREYSCREEN_PUT_DATA : OSPREYSCREEN_PUT_CONFIGURATION;
@@ -251,7 +215,7 @@ static call next_step(generator *g, const outlook *o)
     if (found == NULL || !configuration_holds(found, READ_SIDE, o->polled) || rng_one_in(r, 12)) {
         return next_poll(g, o);
     }
-    return o->round == OSPREYSCREEN_ROUND_READ ? (call){.code = OSPREYSCREEN_COMMIT}
+    return o->round == OSPREYSCREEN_ROUND_READ ? call_commit()
                                                : next_put_or_commit(g, o, found);
 }
 
@@ -262,28 +226,28 @@ call generate_call(generator *g)
     outlook o;
 
     if (!outlook_read(&o, table->bytes, table->len)) {
-        return any_call(g, OSPREYSCREEN_STATIONS_MAX, OSPREYSCREEN_ITEMS_MAX);
+        return generate_any_call(g, OSPREYSCREEN_STATIONS_MAX, OSPREYSCREEN_ITEMS_MAX);
     }
     if (rng_one_in(r, g->drops)) {
         return o.on == 0 || rng_one_in(r, 10)
-                   ? link_call((unsigned)rng_below(r, o.n), OSPREYSCREEN_LINK_OFF)
-                   : link_call(station_of(r, o.on), OSPREYSCREEN_LINK_OFF);
+                   ? call_link((unsigned)rng_below(r, o.n), OSPREYSCREEN_LINK_OFF)
+                   : call_link(station_of(r, o.on), OSPREYSCREEN_LINK_OFF);
     }
     switch (rng_below(r, 60)) {
     case 0:
     case 1:
     case 2:
     case 3:
-        return any_call(g, o.n, o.m);
+        return generate_any_call(g, o.n, o.m);
     case 4:
     case 5:
     case 6:
         return return_station(g, &o);
     case 7:
     case 8:
-        return reach_call(rng_below(r, o.m));
+        return call_reach(rng_below(r, o.m));
     case 9: /* a commit before its time */
-        return (call){.code = OSPREYSCREEN_COMMIT};
+        return call_commit();
     default:
         return next_step(g, &o);
     }
@@ -296,14 +260,8 @@ void generate_step(generator *g, const call *c)
 
 call generate_lay(generator *g, unsigned n, unsigned m)
 {
-    call c = {.code = OSPREYSCREEN_LAY};
-
-    c.numbers[ARGUMENT_N] = n;
-    c.numbers[ARGUMENT_M] = m;
-    c.numbers[ARGUMENT_VALUE] = draw_value(&g->source);
-    give_configuration(g, &c);
     draw_configuration(&g->source, n, g->config);
-    return c;
+    return call_lay(n, m, draw_value(&g->source), g->config);
 }
 
 call generate_any_lay(generator *g)
@@ -363,7 +321,7 @@ static void break_a_clause(generator *g)
     }
     set_table(g, &broken);
     for (uint64_t calls = 1 + rng_below(r, 3); calls > 0; calls--) {
-        call c = any_call(g, before.bytes[0], before.bytes[1]);
+        call c = generate_any_call(g, before.bytes[0], before.bytes[1]);
         generate_step(g, &c);
     }
     set_table(g, &before);
@@ -515,7 +473,7 @@ static void generate_wrong_length(generator *g, unsigned n, unsigned m)
     damage_fresh(r, bytes, n, m);
     record_bytes(&g->to, 0, bytes, len < fit ? len : fit);
     for (int calls = 0; calls < 20; calls++) {
-        call c = any_call(g, n, m);
+        call c = generate_any_call(g, n, m);
         generate_step(g, &c);
     }
 }
@@ -554,7 +512,7 @@ static void generate_wrong_size(generator *g)
     damage_fresh(r, bytes, n, m);
     record_bytes(&g->to, 0, bytes, len);
     for (int calls = 0; calls < 10; calls++) {
-        call c = any_call(g, stations_for(n), m == 0 ? 1 : m);
+        call c = generate_any_call(g, stations_for(n), m == 0 ? 1 : m);
         generate_step(g, &c);
     }
 }

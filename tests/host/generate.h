@@ -36,6 +36,9 @@ call generate_any_lay(generator *g);
 /* The next call, chosen by the table. */
 call generate_call(generator *g);
 
+/* Any call with any arguments, on a table of n stations and m items. */
+call generate_any_call(generator *g, unsigned n, unsigned m);
+
 /* Records a call; it is lent its configuration at any place. */
 void generate_step(generator *g, const call *c);
 

@@ -7,6 +7,7 @@
 #define LISTS_H
 
 #include "calls.h"
+#include "fields.h"
 #include "guard.h"
 
 #include <stdio.h>
@@ -18,7 +19,7 @@ typedef enum {
 } step_kind;
 
 /* A counter of a copy, by its offset. */
-typedef enum { COUNTER_VERSION = 0, COUNTER_GENERATION = 16 } counter;
+typedef enum { COUNTER_VERSION = VERSION_IN, COUNTER_GENERATION = GENERATION_IN } counter;
 
 typedef struct {
     step_kind kind;

@@ -1,34 +1,38 @@
 #include "outlook.h"
 
 #include "bytes.h"
+#include "configurations.h"
+#include "fields.h"
 
 #include <string.h>
 
-enum { VALUE_AT = 8, CONFIGURATION_AT = 24 };
-
 bool outlook_read(outlook *o, const uint8_t *table, size_t len)
 {
-    if (len < OSPREYSCREEN_HEAD_LENGTH) {
+    if (len < HEAD) {
         return false;
     }
-    *o = (outlook){.table = table, .n = table[0], .m = table[1], .round = table[4], .item = table[5]};
+    *o = (outlook){.table = table,
+                   .n = table[N_AT],
+                   .m = table[M_AT],
+                   .round = table[ROUND_AT],
+                   .item = table[ITEM_AT],
+                   .target = table + TARGET_AT};
     if (o->n < 1 || o->n > OSPREYSCREEN_STATIONS_MAX || o->item >= o->m ||
         len != OSPREYSCREEN_TABLE_LENGTH(o->n, o->m)) {
         return false;
     }
-    unsigned all = (1u << o->n) - 1;
-    o->off = get_set(table + 2) & all;
+    unsigned all = all_stations(o->n);
+    o->off = get_set(table + OFF_AT) & all;
     o->on = all & ~o->off;
-    o->polled = get_set(table + 6) & all;
-    o->data_puts = get_set(table + 8) & all;
-    o->configuration_puts = get_set(table + 10) & all;
-    o->target = table + 24;
+    o->polled = get_set(table + POLLED_AT) & all;
+    o->data_puts = get_set(table + DATA_AT) & all;
+    o->configuration_puts = get_set(table + PUTS_AT) & all;
     return true;
 }
 
 const uint8_t *outlook_copy(const outlook *o, unsigned item, unsigned station)
 {
-    return o->table + OSPREYSCREEN_HEAD_LENGTH + OSPREYSCREEN_COPY_LENGTH * (item * o->n + station);
+    return o->table + copy_at(o->n, item, station);
 }
 
 const uint8_t *outlook_newest(const outlook *o, unsigned item, unsigned among, counter by)
@@ -47,8 +51,8 @@ const uint8_t *outlook_newest(const outlook *o, unsigned item, unsigned among, c
 bool outlook_tie(const outlook *o, unsigned item, unsigned among, counter by)
 {
     const uint8_t *newest = outlook_newest(o, item, among, by);
-    size_t at = by == COUNTER_VERSION ? VALUE_AT : CONFIGURATION_AT;
-    size_t width = by == COUNTER_VERSION ? 8 : OSPREYSCREEN_CONFIGURATION_LENGTH;
+    size_t at = by == COUNTER_VERSION ? VALUE_IN : CONFIGURATION_IN;
+    size_t width = by == COUNTER_VERSION ? 8 : CONFIGURATION;
 
     for (unsigned station = 0; station < o->n; station++) {
         const uint8_t *copy = outlook_copy(o, item, station);
@@ -63,5 +67,5 @@ bool outlook_tie(const outlook *o, unsigned item, unsigned among, counter by)
 const uint8_t *outlook_configuration(const outlook *o, unsigned item, unsigned among)
 {
     const uint8_t *newest = outlook_newest(o, item, among, COUNTER_GENERATION);
-    return newest == NULL ? NULL : newest + CONFIGURATION_AT;
+    return newest == NULL ? NULL : newest + CONFIGURATION_IN;
 }

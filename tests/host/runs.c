@@ -1,6 +1,7 @@
 #include "runs.h"
 
 #include "bytes.h"
+#include "fields.h"
 
 #include <string.h>
 
@@ -65,32 +66,32 @@ static bool change_bytes(const loan *table, const step *s)
     return true;
 }
 
-/* The counter of the item's first copy, in a table that has the item. */
-static uint8_t *first_counter(const loan *table, const step *s)
+/* Whether the table is of a length that has all the item's copies. */
+static bool has_item(const loan *table, uint64_t item)
 {
-    uint8_t *head = table->bytes;
-    if (table->len < OSPREYSCREEN_HEAD_LENGTH || s->item >= head[1] ||
-        table->len != OSPREYSCREEN_TABLE_LENGTH(head[0], head[1])) {
-        return NULL;
-    }
-    return head + OSPREYSCREEN_HEAD_LENGTH + OSPREYSCREEN_COPY_LENGTH * s->item * head[0] + s->raised;
+    return table->len >= HEAD && item < table->bytes[M_AT] &&
+           table->len == OSPREYSCREEN_TABLE_LENGTH(table->bytes[N_AT], table->bytes[M_AT]);
+}
+
+static uint8_t *counter_in(const loan *table, const step *s, size_t station)
+{
+    return table->bytes + copy_at(table->bytes[N_AT], s->item, station) + s->raised;
 }
 
 /* Adds the number to the counter of all the item's copies, if none of them
  * passes 2^64 - 1: their order stays. */
 static bool raise_counters(const loan *table, const step *s)
 {
-    uint8_t *first = first_counter(table, s);
-    if (first == NULL) {
+    if (!has_item(table, s->item)) {
         return false;
     }
-    for (size_t station = 0; station < table->bytes[0]; station++) {
-        if (get_number(first + OSPREYSCREEN_COPY_LENGTH * station, 8) > UINT64_MAX - s->by) {
+    for (size_t station = 0; station < table->bytes[N_AT]; station++) {
+        if (get_number(counter_in(table, s, station), 8) > UINT64_MAX - s->by) {
             return false;
         }
     }
-    for (size_t station = 0; station < table->bytes[0]; station++) {
-        uint8_t *number = first + OSPREYSCREEN_COPY_LENGTH * station;
+    for (size_t station = 0; station < table->bytes[N_AT]; station++) {
+        uint8_t *number = counter_in(table, s, station);
         set_number(number, 8, get_number(number, 8) + s->by);
     }
     return true;

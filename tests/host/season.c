@@ -3,7 +3,6 @@
 #include "configurations.h"
 #include "draw.h"
 #include "outlook.h"
-#include "steps.h"
 
 #include <string.h>
 

@@ -8,6 +8,7 @@
 #include <stdlib.h>
 #include <string.h>
 #include <sys/time.h>
+#include <time.h>
 
 /* Where a call that faults or does not end comes back to. */
 static sigjmp_buf way_out;
@@ -168,7 +169,8 @@ bool trial_passes(trial *t, const list *l, tally *counts, unsigned seconds)
 
 /* ---- Shrinking ---- */
 
-enum { SHRINK_SECONDS = 2 };
+/* For one trial of a shorter list, and for all of them. */
+enum { TRIAL_SECONDS = 2, SHRINK_SECONDS = 20 };
 
 /* Leaves out steps from one on, and keeps that if the list still fails. */
 static bool leave_out(trial *t, list *l, size_t from, size_t count, step *room)
@@ -177,7 +179,7 @@ static bool leave_out(trial *t, list *l, size_t from, size_t count, step *room)
     memcpy(room, l->steps, before * sizeof *room);
     memmove(l->steps + from, l->steps + from + count, (before - from - count) * sizeof *l->steps);
     l->count = before - count;
-    if (trial_passes(t, l, NULL, SHRINK_SECONDS)) {
+    if (trial_passes(t, l, NULL, TRIAL_SECONDS)) {
         memcpy(l->steps, room, before * sizeof *room);
         l->count = before;
         return false;
@@ -186,11 +188,12 @@ static bool leave_out(trial *t, list *l, size_t from, size_t count, step *room)
     return true;
 }
 
-/* One walk over the list with pieces of one size; gives whether any went. */
-static bool leave_out_pieces(trial *t, list *l, size_t size, step *room)
+/* One walk over the list with pieces of one size, while there is time; gives
+ * whether any went. */
+static bool leave_out_pieces(trial *t, list *l, size_t size, step *room, time_t end)
 {
     bool any = false;
-    for (size_t from = 0; from + size <= l->count;) {
+    for (size_t from = 0; from + size <= l->count && time(NULL) < end;) {
         if (leave_out(t, l, from, size, room)) {
             any = true;
         } else {
@@ -203,12 +206,14 @@ static bool leave_out_pieces(trial *t, list *l, size_t size, step *room)
 void trial_shrink(trial *t, list *l)
 {
     step *room = malloc(l->count * sizeof *room);
+    time_t end = time(NULL) + SHRINK_SECONDS;
+
     if (room == NULL) {
         return;
     }
     l->count = t->index;
     for (size_t size = l->count; size > 0; size /= 2) {
-        while (leave_out_pieces(t, l, size, room)) {
+        while (leave_out_pieces(t, l, size, room, end)) {
         }
     }
     free(room);
