@@ -19,72 +19,86 @@ const argument_shape ARGUMENTS[ARGUMENT_KINDS] = {
 
 /* ---- One function of an implementation on what is lent ---- */
 
-static ospreyscreen_reply make_lay(const implementation *with, const call *c,
+/* The functions as they are called: with where the reply goes in front. */
+typedef const void *no_number(uint8_t *reply, uint8_t *table, size_t len);
+typedef const void *one_number(uint8_t *reply, uint8_t *table, size_t len, uint64_t first);
+typedef const void *two_numbers(uint8_t *reply, uint8_t *table, size_t len, uint64_t first,
+                                uint64_t second);
+typedef const void *one_number_and_bytes(uint8_t *reply, uint8_t *table, size_t len, uint64_t first,
+                                         const uint8_t *bytes, size_t bytes_len);
+typedef const void *three_numbers_and_bytes(uint8_t *reply, uint8_t *table, size_t len,
+                                            uint64_t first, uint64_t second, uint64_t third,
+                                            const uint8_t *bytes, size_t bytes_len);
+
+/* The function under another of these types; the compiler is not to ask. */
+#define AS(type, function) ((type *)(void (*)(void))(function))
+
+/* What every function takes first, and what those with a configuration take last. */
+#define REPLY_AND_TABLE lent[LENT_REPLY].bytes, lent[LENT_TABLE].bytes, lent[LENT_TABLE].len
+#define LENT_CONFIG lent[LENT_CONFIGURATION].bytes, lent[LENT_CONFIGURATION].len
+
+static const void *make_lay(const implementation *with, const call *c, const loan lent[LENT_KINDS])
+{
+    return AS(three_numbers_and_bytes, with->lay)(REPLY_AND_TABLE, c->numbers[ARGUMENT_N],
+                                                  c->numbers[ARGUMENT_M],
+                                                  c->numbers[ARGUMENT_VALUE], LENT_CONFIG);
+}
+
+static const void *make_open_read(const implementation *with, const call *c,
+                                  const loan lent[LENT_KINDS])
+{
+    return AS(one_number, with->open_read)(REPLY_AND_TABLE, c->numbers[ARGUMENT_ITEM]);
+}
+
+static const void *make_open_write(const implementation *with, const call *c,
                                    const loan lent[LENT_KINDS])
 {
-    return with->lay(lent[LENT_TABLE].bytes, lent[LENT_TABLE].len, c->numbers[ARGUMENT_N],
-                     c->numbers[ARGUMENT_M], c->numbers[ARGUMENT_VALUE],
-                     lent[LENT_CONFIGURATION].bytes, lent[LENT_CONFIGURATION].len);
+    return AS(two_numbers, with->open_write)(REPLY_AND_TABLE, c->numbers[ARGUMENT_ITEM],
+                                             c->numbers[ARGUMENT_VALUE]);
 }
 
-static ospreyscreen_reply make_open_read(const implementation *with, const call *c,
-                                         const loan lent[LENT_KINDS])
-{
-    return with->open_read(lent[LENT_TABLE].bytes, lent[LENT_TABLE].len, c->numbers[ARGUMENT_ITEM]);
-}
-
-static ospreyscreen_reply make_open_write(const implementation *with, const call *c,
-                                          const loan lent[LENT_KINDS])
-{
-    return with->open_write(lent[LENT_TABLE].bytes, lent[LENT_TABLE].len, c->numbers[ARGUMENT_ITEM],
-                            c->numbers[ARGUMENT_VALUE]);
-}
-
-static ospreyscreen_reply make_open_change(const implementation *with, const call *c,
-                                           const loan lent[LENT_KINDS])
-{
-    return with->open_change(lent[LENT_TABLE].bytes, lent[LENT_TABLE].len, c->numbers[ARGUMENT_ITEM],
-                             lent[LENT_CONFIGURATION].bytes, lent[LENT_CONFIGURATION].len);
-}
-
-static ospreyscreen_reply make_poll(const implementation *with, const call *c,
+static const void *make_open_change(const implementation *with, const call *c,
                                     const loan lent[LENT_KINDS])
 {
-    return with->poll(lent[LENT_TABLE].bytes, lent[LENT_TABLE].len, c->numbers[ARGUMENT_STATION]);
+    return AS(one_number_and_bytes, with->open_change)(REPLY_AND_TABLE, c->numbers[ARGUMENT_ITEM],
+                                                       LENT_CONFIG);
 }
 
-static ospreyscreen_reply make_put(const implementation *with, const call *c,
-                                   const loan lent[LENT_KINDS])
+static const void *make_poll(const implementation *with, const call *c, const loan lent[LENT_KINDS])
 {
-    return with->put(lent[LENT_TABLE].bytes, lent[LENT_TABLE].len, c->numbers[ARGUMENT_STATION],
-                     c->numbers[ARGUMENT_SORT]);
+    return AS(one_number, with->poll)(REPLY_AND_TABLE, c->numbers[ARGUMENT_STATION]);
 }
 
-static ospreyscreen_reply make_commit(const implementation *with, const call *c,
-                                      const loan lent[LENT_KINDS])
+static const void *make_put(const implementation *with, const call *c, const loan lent[LENT_KINDS])
 {
-    (void)c;
-    return with->commit(lent[LENT_TABLE].bytes, lent[LENT_TABLE].len);
+    return AS(two_numbers, with->put)(REPLY_AND_TABLE, c->numbers[ARGUMENT_STATION],
+                                      c->numbers[ARGUMENT_SORT]);
 }
 
-static ospreyscreen_reply make_abandon(const implementation *with, const call *c,
-                                       const loan lent[LENT_KINDS])
+static const void *make_commit(const implementation *with, const call *c,
+                               const loan lent[LENT_KINDS])
 {
     (void)c;
-    return with->abandon(lent[LENT_TABLE].bytes, lent[LENT_TABLE].len);
+    return AS(no_number, with->commit)(REPLY_AND_TABLE);
 }
 
-static ospreyscreen_reply make_link(const implementation *with, const call *c,
-                                    const loan lent[LENT_KINDS])
+static const void *make_abandon(const implementation *with, const call *c,
+                                const loan lent[LENT_KINDS])
 {
-    return with->link(lent[LENT_TABLE].bytes, lent[LENT_TABLE].len, c->numbers[ARGUMENT_STATION],
-                      c->numbers[ARGUMENT_STATE]);
+    (void)c;
+    return AS(no_number, with->abandon)(REPLY_AND_TABLE);
 }
 
-static ospreyscreen_reply make_reach(const implementation *with, const call *c,
-                                     const loan lent[LENT_KINDS])
+static const void *make_link(const implementation *with, const call *c, const loan lent[LENT_KINDS])
 {
-    return with->reach(lent[LENT_TABLE].bytes, lent[LENT_TABLE].len, c->numbers[ARGUMENT_ITEM]);
+    return AS(two_numbers, with->link)(REPLY_AND_TABLE, c->numbers[ARGUMENT_STATION],
+                                       c->numbers[ARGUMENT_STATE]);
+}
+
+static const void *make_reach(const implementation *with, const call *c,
+                              const loan lent[LENT_KINDS])
+{
+    return AS(one_number, with->reach)(REPLY_AND_TABLE, c->numbers[ARGUMENT_ITEM]);
 }
 
 /* ---- The rows ---- */
@@ -152,9 +166,9 @@ const call_shape *shape_of(const call *c)
     return shape;
 }
 
-ospreyscreen_reply call_make(const implementation *with, const call *c, const loan lent[LENT_KINDS])
+bool call_make(const implementation *with, const call *c, const loan lent[LENT_KINDS])
 {
-    return shape_of(c)->make(with, c, lent);
+    return shape_of(c)->make(with, c, lent) == lent[LENT_REPLY].bytes;
 }
 
 bool call_can_give(const call_shape *shape, uint64_t number)

@@ -13,8 +13,11 @@
 
 enum { REPLY_NUMBERS = 12, ARGUMENTS_MOST = 4, FRAME_MOST = 43, CONFIGURATION_ROOM = 300 };
 
-/* The buffers that calls are lent. */
-typedef enum { LENT_TABLE, LENT_CONFIGURATION, LENT_KINDS } lent_kind;
+/* The buffers that calls are lent. A reply is one of them: on x86-64 with the
+ * System V convention the caller hands over where a struct of four numbers is
+ * to be written. The tests do so by hand and choose what stands there before,
+ * so that they see a byte of a reply that a call does not write. */
+typedef enum { LENT_TABLE, LENT_CONFIGURATION, LENT_REPLY, LENT_KINDS } lent_kind;
 
 /* A lent buffer; a null pointer goes with length 0 only. */
 typedef struct {
@@ -160,7 +163,8 @@ typedef struct {
     argument arguments[ARGUMENTS_MOST]; /* in the frame's order */
     unsigned numbers;                   /* bit k: it can give number k */
     int opens;                          /* the kind of round; none if it is no opening */
-    ospreyscreen_reply (*make)(const implementation *, const call *, const loan lent[LENT_KINDS]);
+    /* Makes the call; gives what the function gives: where its reply is. */
+    const void *(*make)(const implementation *, const call *, const loan lent[LENT_KINDS]);
 } call_shape;
 
 enum { CALL_COUNT = 10, CALL_CODES = 1 + CALL_COUNT };
@@ -172,8 +176,8 @@ const call_shape *call_of(int code);
 /* The row of a call whose code is known to be one; ends the program if not. */
 const call_shape *shape_of(const call *c);
 
-/* Makes the call on what is lent. */
-ospreyscreen_reply call_make(const implementation *with, const call *c, const loan lent[LENT_KINDS]);
+/* Makes the call on what is lent; false if its reply is not where it is to be. */
+bool call_make(const implementation *with, const call *c, const loan lent[LENT_KINDS]);
 
 /* Whether the header says that the call can give the number. */
 bool call_can_give(const call_shape *shape, uint64_t number);

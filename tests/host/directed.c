@@ -216,6 +216,22 @@ static void every_length(generator *g, uint64_t index)
     }
 }
 
+/* A table longer by so much that the length fits if it is cut. */
+static const size_t MORE_BYTES[] = {256, 512, 56 * 256, 65536, 2 * 65536, 1 << 20, 1 << 21};
+enum { MORE_BYTES_COUNT = sizeof MORE_BYTES / sizeof MORE_BYTES[0] };
+
+static void longer_table(generator *g, uint64_t index)
+{
+    size_t fit = OSPREYSCREEN_TABLE_LENGTH(LENGTH_N, LENGTH_M);
+
+    record_table(&g->to, fit + MORE_BYTES[index], GUARD_AFTER, false);
+    damage_fresh(&g->source, scene, LENGTH_N, LENGTH_M);
+    for (int i = 0; i < CALL_COUNT; i++) {
+        record_bytes(&g->to, 0, scene, fit);
+        make(g, fitting_call(g, &CALLS[i], LENGTH_N, LENGTH_M));
+    }
+}
+
 /* ---- Soundness ---- */
 
 static const unsigned SIZES[][2] = {{1, 1}, {1, 2}, {2, 1},  {3, 2}, {7, 3},
@@ -555,8 +571,16 @@ static void one_tie(generator *g, uint64_t index)
     }
 }
 
-/* Counters that differ in one byte: the low bytes say the opposite. Every
- * byte, every two of 1 to 4 stations, both counters, and the sign. */
+/* Both counters of the copy at the station. */
+static void set_counters(unsigned station, uint64_t number)
+{
+    set_number(scene_copy(0, station) + COUNTER_VERSION, 8, number);
+    set_number(scene_copy(0, station) + COUNTER_GENERATION, 8, number);
+}
+
+/* Counters that differ in one byte, while the bytes below say the opposite;
+ * then the lower one alone, whose raise goes over that byte's end. Every byte,
+ * and the sign, at every two of some stations. */
 static void one_counter(generator *g, uint64_t index)
 {
     unsigned n = 2 + (unsigned)index % 3;
@@ -567,10 +591,11 @@ static void one_counter(generator *g, uint64_t index)
 
     two_stations(index / 27, n, &a, &b);
     begin_copies(g, n);
-    for (unsigned at = COUNTER_VERSION; at <= COUNTER_GENERATION; at += COUNTER_GENERATION) {
-        set_number(scene_copy(0, a) + at, 8, high - 1);
-        set_number(scene_copy(0, b) + at, 8, high);
-    }
+    set_counters(a, high - 1);
+    set_counters(b, high);
+    look_at_copies(g);
+    set_counters(b, 0);
+    set_counters(a, high - 1);
     look_at_copies(g);
 }
 
@@ -701,6 +726,7 @@ static const group GROUPS[] = {
     {any_sound_table, 4800},
     {one_clause, (uint64_t)SIZE_COUNT * BROKEN_CLAUSES},
     {every_length, (uint64_t)GUARD_PLACES * LENGTHS},
+    {longer_table, MORE_BYTES_COUNT},
     {false_size, FALSE_SIZE_COUNT},
     {every_size, (uint64_t)STATIONS * ITEMS},
     {one_argument, (uint64_t)4 * ARGUMENT_NUMBERS},

@@ -29,7 +29,8 @@ ospreyscreen_reply record_call(recorder *to, const call *c, guard_place place)
 {
     const step *s = list_call(to->into, c, place);
     run_lend(&to->steering, s);
-    return run_call(&to->steering, &s->made);
+    run_call(&to->steering, &s->made);
+    return run_reply(&to->steering);
 }
 
 void record_bytes(recorder *to, size_t at, const uint8_t *bytes, size_t count)

@@ -73,15 +73,17 @@ static size_t lent_length(const call *c)
 static ospreyscreen_reply make_call(const call *c)
 {
     uint8_t config[OSPREYSCREEN_CONFIGURATION_LENGTH] = {0};
+    ospreyscreen_reply reply;
     loan lent[LENT_KINDS] = {
         [LENT_TABLE] = {table, lent_length(c)},
         [LENT_CONFIGURATION] = {config, c->config_len},
+        [LENT_REPLY] = {(uint8_t *)&reply, sizeof reply},
     };
     if (c->config != NULL) {
         memcpy(config, c->config, c->config_len);
     }
     sight seen = tally_look(c, &(loan){table, table_length}, table_length != 0);
-    ospreyscreen_reply reply = call_make(&REFERENCE, c, lent);
+    call_make(&REFERENCE, c, lent);
     tally_call(&counts, &seen, c, &reply);
     if (c->code == OSPREYSCREEN_LAY && reply.number == OSPREYSCREEN_DONE) {
         table_length = lent[LENT_TABLE].len;

@@ -15,9 +15,16 @@ static size_t whole_configuration(const loan lent[LENT_KINDS])
     return lent[LENT_CONFIGURATION].len;
 }
 
+static size_t whole_reply(const loan lent[LENT_KINDS])
+{
+    return lent[LENT_REPLY].len;
+}
+
 const lent_rule LENT[LENT_KINDS] = {
     [LENT_TABLE] = {"table", GUARD_WRITABLE, TABLE_ROOM, whole_table},
-    [LENT_CONFIGURATION] = {"configuration", GUARD_READ_ONLY, CONFIGURATION_ROOM, whole_configuration},
+    [LENT_CONFIGURATION] = {"configuration", GUARD_READ_ONLY, CONFIGURATION_ROOM,
+                            whole_configuration},
+    [LENT_REPLY] = {"reply", GUARD_WRITABLE, sizeof(ospreyscreen_reply), whole_reply},
 };
 
 run run_make(const implementation *with)
@@ -36,6 +43,8 @@ void run_begin(run *r, const list *l)
     r->lent[LENT_TABLE] = (loan){l->null_table && l->len == 0 ? NULL : lent, l->len};
     guard_lend(&r->buffers[LENT_CONFIGURATION], 0, GUARD_AFTER);
     r->lent[LENT_CONFIGURATION] = (loan){NULL, 0};
+    size_t size = sizeof(ospreyscreen_reply);
+    r->lent[LENT_REPLY] = (loan){guard_lend(&r->buffers[LENT_REPLY], size, GUARD_AFTER), size};
 }
 
 void run_lend(run *r, const step *s)
@@ -50,9 +59,17 @@ void run_lend(run *r, const step *s)
     r->lent[LENT_CONFIGURATION] = (loan){lent, c->config_len};
 }
 
-ospreyscreen_reply run_call(const run *r, const call *c)
+bool run_call(const run *r, const call *c)
 {
+    memset(r->lent[LENT_REPLY].bytes, 0xC3, r->lent[LENT_REPLY].len);
     return call_make(r->with, c, r->lent);
+}
+
+ospreyscreen_reply run_reply(const run *r)
+{
+    ospreyscreen_reply reply;
+    memcpy(&reply, r->lent[LENT_REPLY].bytes, sizeof reply);
+    return reply;
 }
 
 static bool change_bytes(const loan *table, const step *s)

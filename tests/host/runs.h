@@ -36,8 +36,12 @@ void run_begin(run *r, const list *l);
 /* Lends what the call of the step takes beside the table. */
 void run_lend(run *r, const step *s);
 
-/* Makes the call with what is lent. */
-ospreyscreen_reply run_call(const run *r, const call *c);
+/* Makes the call with what is lent; false if its reply is not where it is to
+ * be. Bytes of the reply that the call does not write are not zero. */
+bool run_call(const run *r, const call *c);
+
+/* The reply of the last call. */
+ospreyscreen_reply run_reply(const run *r);
 
 /* Does to the table what a step that is no call says. Gives false, and does
  * nothing, where it does not fit the table. */

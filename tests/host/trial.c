@@ -88,8 +88,13 @@ static const char *make_call(trial *t, const step *s, tally *counts)
     if (counts != NULL) {
         seen = tally_look(c, &t->reference.lent[LENT_TABLE], t->covered);
     }
-    t->want = run_call(&t->reference, c);
-    t->got = run_call(&t->tested, c);
+    bool placed = run_call(&t->reference, c);
+    t->want = run_reply(&t->reference);
+    placed &= run_call(&t->tested, c);
+    t->got = run_reply(&t->tested);
+    if (!placed) {
+        return "a reply is not where the caller wants it";
+    }
     if (!same_reply(&t->got, &t->want)) {
         return "the replies differ";
     }
