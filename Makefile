@@ -10,6 +10,7 @@
 #   make test         the gate (.ci/run), then test-host, then test-faults
 #   make test-host    the library and the runner against an independent implementation, under 90 seconds
 #   make test-faults  the tests of calls against planted faults, each of which they have to find
+#   make test-machine the same with faults planted in the library's machine code
 #   make soak         10 million calls and 10 million frame lines, from a new seed each time
 #   make season       seasons of one house, 10^9 calls in a night (SEED and FROM to go on where one ended)
 #   make bench        times beside an optimised C implementation
@@ -31,7 +32,7 @@ LIB := build/libospreyscreen.a
 HEADER := build/ospreyscreen.h
 RUNNER := build/frame_runner
 EXAMPLES := build/first_reading build/season
-HOST_TESTS := test-host test-faults soak season bench
+HOST_TESTS := test-host test-faults test-machine soak season bench
 SOURCES := crates.txt $(shell find crates -name '*.rt' -o -name '*.antt')
 
 # A text as one word of the shell.

@@ -284,6 +284,30 @@ static void byte_of_large(generator *g, uint64_t index)
     one_byte(g, 16, 1, index);
 }
 
+/* Copies that all have one configuration, and the target too; then every bit
+ * of one copy's configuration, or of the target's, turned over. */
+enum { ALIKE_N = 5, ALIKE_M = 7, ALIKE_COPIES = ALIKE_N * ALIKE_M };
+
+static void one_unlike(generator *g, uint64_t index)
+{
+    uint8_t config[CONFIGURATION];
+
+    begin(g, ALIKE_N, ALIKE_M);
+    damage_round(&g->source, scene, OSPREYSCREEN_ROUND_CHANGE);
+    draw_configuration(&g->source, ALIKE_N, config);
+    for (size_t copy = 0; copy <= ALIKE_COPIES; copy++) { /* the target stands like a copy's */
+        memcpy(scene + COPY * copy + CONFIGURATION_IN, config, CONFIGURATION);
+    }
+    set_scene(g);
+    for (unsigned bit = 0; bit < 8 * CONFIGURATION; bit++) {
+        size_t at = COPY * (size_t)index + CONFIGURATION_IN + bit / 8;
+        uint8_t turned = scene[at] ^ (uint8_t)(1u << bit % 8);
+        record_bytes(&g->to, at, &turned, 1);
+        make(g, call_reach(bit % ALIKE_M));
+        record_bytes(&g->to, at, scene + at, 1);
+    }
+}
+
 /* ---- Configurations ---- */
 
 /* The configuration where a call or the table can have it: at lay, as a
@@ -739,6 +763,7 @@ static const group GROUPS[] = {
     {one_pair, (uint64_t)PLACES * PLACES * (STATIONS - 1)},
     {foreign_stations, (uint64_t)2 * PLACES * (STATIONS - 1)},
     {used_places, (uint64_t)512 * STATIONS},
+    {one_unlike, 1 + ALIKE_COPIES},
     {byte_of_small, 4 * OSPREYSCREEN_TABLE_LENGTH(3, 2)},
     {byte_of_large, 4 * OSPREYSCREEN_TABLE_LENGTH(16, 1)},
 };

@@ -3,6 +3,7 @@
 #   make -f tests/host/host.mk build        all programs
 #   make -f tests/host/host.mk test-host    short tests, under 90 seconds
 #   make -f tests/host/host.mk test-faults  the short tests of calls against each planted fault
+#   make -f tests/host/host.mk test-machine  the same with faults in the library's machine code
 #   make -f tests/host/host.mk soak         10 million calls, 10 million frame lines, from a new seed
 #   make -f tests/host/host.mk season       seasons of one house, 10^9 calls, from a new seed
 #   make -f tests/host/host.mk bench        times, as Markdown, CSV and SVG, in build/host/bench
@@ -16,6 +17,7 @@
 # SEED                           where random tests begin
 # FROM                           the season to begin with
 # FAULT_SEEDS                    the seeds that planted faults are tried with
+# MOST_SURVIVORS                 how many faults of a hundred may survive in the machine code
 # CC, CXX, CPPFLAGS, CFLAGS, CXXFLAGS, LDFLAGS, LDLIBS as usual; the flags come after those of this file
 
 ifneq ($(filter default undefined,$(origin CC)),)
@@ -31,6 +33,7 @@ RUNS := 1 2 3 4 5 6 7 8 9
 
 FROM ?= 0
 FAULT_SEEDS ?= 1,2,3,4,5
+MOST_SURVIVORS ?= 15
 
 # Short tests, soak and seasons differ where nothing is given.
 ifeq ($(CALLS),)
@@ -100,7 +103,7 @@ CXX_EXAMPLES := $(EXAMPLES:%=$(BIN)/c++17/%) $(EXAMPLES:%=$(BIN)/c++20/%)
 
 TESTS := test-header test-archive test-directed test-calls test-frames test-tool test-make test-example test-readme \
     test-docs
-.PHONY: build test-host test-faults soak season bench clean $(TESTS)
+.PHONY: build test-host test-faults test-machine soak season bench clean $(TESTS)
 .DELETE_ON_ERROR:
 
 build: $(PLAIN) $(CHECKED)
@@ -172,7 +175,12 @@ test-calls: build
 test-faults: $(DIFFERENTIAL:%=$(OBJ)/plain/%)
 	python3 tests/host/test_faults.py --cc $(call quote,$(CC)) --cflags $(call quote,$(C11) $(CPPFLAGS) $(CFLAGS)) \
 	    --ldflags $(call quote,$(LDFLAGS)) --objects $(call quote,$^) --out $(OBJ)/faults \
-	    --seeds $(call quote,$(FAULT_SEEDS)) --calls $(CALLS)
+	    --seeds $(call quote,$(FAULT_SEEDS)) --calls $(CALLS) --forms random,directed
+
+# Each instruction of the library with a fault in it; some faults change nothing, and survive.
+test-machine: $(BIN)/plain/differential
+	python3 tests/host/test_machine_faults.py $< $(if $(LIB),$(ARCHIVE),"a library is needed") --out $(BIN)/machine-faults \
+	    --seed $(SEED) --calls $(CALLS) --most $(MOST_SURVIVORS)
 
 season: build
 	@echo "$@: seed $(SEED)"

@@ -1,10 +1,21 @@
-"""Shows that the differential test catches every fault of faults.txt.
+"""Shows that the differential test catches every fault of faults/.
 
 usage: test_faults.py --cc CC --cflags FLAGS --ldflags FLAGS --objects "A.o B.o ..." --out DIR
                       [--seeds 1,2,3,4,5] [--calls 200000] [--jobs 2] [--only NAME]
                       [--forms directed,random] [--both]
 
-A fault is one edit of reference.c. The faulty copy is compiled under the
+A fault is one edit of reference.c:
+
+    == name
+    # what is wrong
+    old:
+    text that stands once in reference.c
+    new:
+    what stands there in its place
+
+A line that begins with # is no part of the edit, nor is a blank line after it.
+
+The faulty copy is compiled under the
 library's names and linked with the objects of `differential`, which have the
 true reference and no library: so the fault is what is tested. The lists of the
 second form run if those of the first find nothing, or with --both in any case.
@@ -28,10 +39,11 @@ import sys
 
 HERE = pathlib.Path(__file__).resolve().parent
 INCLUDE = HERE.parents[1] / "include"
-FAULTS = HERE / "faults.txt"
+FAULTS = sorted((HERE / "faults").glob("*.txt"))
 REFERENCE = HERE / "reference.c"
+HEADER = HERE / "reference.h"
 
-CALLS = "lay open_read open_write open_change poll put commit abandon link reach".split()
+CALL = re.compile(r"^ospreyscreen_reply ref_(\w+)\(", re.MULTILINE)
 SECONDS = 120
 CAUGHT, PASSED, NOT_MET = "caught", "passed", "not met"
 
@@ -56,21 +68,21 @@ def read_block(text):
     name, words, *edit = text.splitlines()
     block = BLOCK.fullmatch("\n".join([name, words] + [line for line in edit if not line.startswith("#")]))
     if block is None:
-        raise Wrong(f"{FAULTS.name}: the block of {name} has not its form")
+        raise Wrong(f"the block of {name} has not its form")
     return Fault(block["name"], block["old"], block["new"].rstrip("\n"))
 
 
 def read_faults(text):
     faults = [read_block(block) for block in re.split(r"^== ", text, flags=re.MULTILINE)[1:]]
     if len({fault.name for fault in faults}) < len(faults):
-        raise Wrong(f"{FAULTS.name}: two faults have one name")
+        raise Wrong("two faults have one name")
     return faults
 
 
 def plant(source, fault):
     times = source.count(fault.old)
     if times != 1:
-        raise Wrong(f"{FAULTS.name}: the old text of {fault.name} stands {times} times in {REFERENCE.name}")
+        raise Wrong(f"the old text of {fault.name} stands {times} times in {REFERENCE.name}")
     return source.replace(fault.old, fault.new)
 
 
@@ -80,7 +92,8 @@ def build(options, name, source):
     """The differential test with this source in the library's place."""
     file, program = options.out / f"{name}.c", options.out / name
     file.write_text(source)
-    names = [f"-Dref_{call}=ospreyscreen_{call}" for call in CALLS] + ["-Dref_broken=fault_broken"]
+    names = [f"-Dref_{call}=ospreyscreen_{call}" for call in CALL.findall(HEADER.read_text())]
+    names.append("-Dref_broken=fault_broken")
     command = [*options.cc, *options.cflags, "-O1", f"-I{INCLUDE}", f"-I{HERE}", *names, *options.ldflags, file,
                *options.objects, "-o", program]
     done = subprocess.run(list(map(str, command)), capture_output=True, text=True)
@@ -193,10 +206,10 @@ def main():
     options = read_options()
     options.out.mkdir(parents=True, exist_ok=True)
     source = REFERENCE.read_text()
-    faults = [fault for fault in read_faults(FAULTS.read_text()) if options.only in (None, fault.name)]
+    faults = [fault for fault in read_faults("\n".join(path.read_text() for path in FAULTS)) if options.only in (None, fault.name)]
     sources = {fault.name: plant(source, fault) for fault in faults}
     if not sources:
-        raise Wrong(f"{FAULTS.name} has no such fault")
+        raise Wrong("there is no such fault")
     if not control_passes(options, source):
         raise Wrong("the copy without a fault does not pass")
     results = try_all(options, sources)

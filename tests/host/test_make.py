@@ -23,7 +23,7 @@ HOST = ["-f", "tests/host/host.mk"]
 CC = shlex.split(os.environ.get("CC", "gcc"))
 
 HERE = ["lib", "run", "example", "stack", "install", "uninstall", "test", "clean", "help"]
-FORWARDED = ["test-host", "test-faults", "soak", "season", "bench"]
+FORWARDED = ["test-host", "test-faults", "test-machine", "soak", "season", "bench"]
 
 RT = """#!/bin/sh
 echo "start $*" >> "$RECORD"
@@ -51,7 +51,7 @@ REPLY = "commit: refused, 5 idle"
 STUB = """
 .PHONY: bench
 test-host: one two
-test-faults soak season bench:
+test-faults test-machine soak season bench:
 	@echo "$@: $(LIB) $(RUNNER) $(SEED) $(CALLS) $(FRAME_LINES) $(SAMPLES)" >> "$(RECORD)"
 one two:
 	@touch $@; for i in 1 2 3 4 5 6 7 8 9 10; do test -e one -a -e two || sleep 0.1; done
