@@ -41,7 +41,7 @@ static const char USAGE[] =
 enum {
     LIST_STEPS = 1 << 17,
     LIST_BYTES = 1 << 25,
-    LIST_SECONDS = 60,
+    LIST_SECONDS = 10,
     PROGRESS_SECONDS = 60,
     NOT_MET = 2
 };

@@ -54,9 +54,12 @@ static uint64_t fitting_number(rng *r, argument kind, unsigned n, unsigned m)
         return 1 + rng_below(r, 2);
     case ARGUMENT_STATE:
         return rng_below(r, 2);
-    default:
-        return rng_next(r);
+    case ARGUMENT_VALUE:
+    case ARGUMENT_CONFIGURATION: /* no number */
+    case ARGUMENT_KINDS:
+        break;
     }
+    return rng_next(r);
 }
 
 /* A call whose arguments are all in range for a table of n and m. */
@@ -284,23 +287,45 @@ static void byte_of_large(generator *g, uint64_t index)
     one_byte(g, 16, 1, index);
 }
 
+/* Configurations for copies that are all alike: any; and such as have a side
+ * whose bytes are all the same, so that one that differs in a bit at either
+ * end of the side, and is false by it, looks alike if it is read one byte off. */
+enum { ALIKE_SHAPES = 4, ALIKE_N = 9, ALIKE_M = 4, ALIKE_COPIES = ALIKE_N * ALIKE_M };
+
+static void alike_configuration(rng *r, unsigned shape, uint8_t *config)
+{
+    unsigned side = shape == 1 ? READ_SIDE : WRITE_SIDE;
+
+    if (shape == 0) {
+        draw_configuration(r, ALIKE_N, config);
+        return;
+    }
+    for (unsigned place = 0; place < PLACES; place++) {
+        configuration_set_to(config, side + place, 0x0101);
+        configuration_set_to(config, PLACES - side + place, 0x0003);
+    }
+}
+
 /* Copies that all have one configuration, and the target too; then every bit
  * of one copy's configuration, or of the target's, turned over. */
-enum { ALIKE_N = 5, ALIKE_M = 7, ALIKE_COPIES = ALIKE_N * ALIKE_M };
-
 static void one_unlike(generator *g, uint64_t index)
 {
+    size_t changed = index / ALIKE_SHAPES;
+    unsigned shape = (unsigned)index % ALIKE_SHAPES;
     uint8_t config[CONFIGURATION];
 
     begin(g, ALIKE_N, ALIKE_M);
     damage_round(&g->source, scene, OSPREYSCREEN_ROUND_CHANGE);
-    draw_configuration(&g->source, ALIKE_N, config);
+    alike_configuration(&g->source, shape, config);
     for (size_t copy = 0; copy <= ALIKE_COPIES; copy++) { /* the target stands like a copy's */
         memcpy(scene + COPY * copy + CONFIGURATION_IN, config, CONFIGURATION);
+        if (copy > 0) { /* what stands behind a configuration */
+            scene[COPY * copy + VERSION_IN] = shape == 3 ? 0x03 : config[CONFIGURATION - 1];
+        }
     }
     set_scene(g);
     for (unsigned bit = 0; bit < 8 * CONFIGURATION; bit++) {
-        size_t at = COPY * (size_t)index + CONFIGURATION_IN + bit / 8;
+        size_t at = COPY * changed + CONFIGURATION_IN + bit / 8;
         uint8_t turned = scene[at] ^ (uint8_t)(1u << bit % 8);
         record_bytes(&g->to, at, &turned, 1);
         make(g, call_reach(bit % ALIKE_M));
@@ -763,7 +788,7 @@ static const group GROUPS[] = {
     {one_pair, (uint64_t)PLACES * PLACES * (STATIONS - 1)},
     {foreign_stations, (uint64_t)2 * PLACES * (STATIONS - 1)},
     {used_places, (uint64_t)512 * STATIONS},
-    {one_unlike, 1 + ALIKE_COPIES},
+    {one_unlike, (uint64_t)ALIKE_SHAPES * (1 + ALIKE_COPIES)},
     {byte_of_small, 4 * OSPREYSCREEN_TABLE_LENGTH(3, 2)},
     {byte_of_large, 4 * OSPREYSCREEN_TABLE_LENGTH(16, 1)},
 };

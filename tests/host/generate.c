@@ -75,7 +75,7 @@ static void draw_argument(generator *g, call *c, argument kind, unsigned n, unsi
     case ARGUMENT_VALUE:
         c->numbers[kind] = draw_value(r);
         break;
-    default:
+    case ARGUMENT_CONFIGURATION:
         n = c->code == OSPREYSCREEN_LAY ? stations_for(c->numbers[ARGUMENT_N]) : n;
         c->config = g->config;
         c->config_len = OSPREYSCREEN_CONFIGURATION_LENGTH;
@@ -83,6 +83,8 @@ static void draw_argument(generator *g, call *c, argument kind, unsigned n, unsi
         if (rng_one_in(r, 2)) {
             draw_false(r, n, g->config, c);
         }
+        break;
+    case ARGUMENT_KINDS:
         break;
     }
 }

@@ -13,7 +13,8 @@
 #                                bench/ stands in under the library's names
 # RUNNER=path/to/frame_runner    the frame runner; without it the plain C
 #                                runner of bench/ stands in
-# CALLS, FRAME_LINES, SAMPLES    how much is tested and timed
+# CALLS, CHECKED_CALLS,          how much is tested, under the sanitizers too,
+# FRAME_LINES, SAMPLES           and timed
 # SEED                           where random tests begin
 # FROM                           the season to begin with
 # FAULT_SEEDS                    the seeds that planted faults are tried with
@@ -40,7 +41,10 @@ ifeq ($(CALLS),)
 CALLS := 200000
 soak: CALLS := 10000000
 season: CALLS := 1000000000
+# The sanitizers see the C side alone, and make it many times slower.
+soak: CHECKED_CALLS := 1000000
 endif
+CHECKED_CALLS ?= $(CALLS)
 ifeq ($(FRAME_LINES),)
 FRAME_LINES := 100000
 soak: FRAME_LINES := 10000000
@@ -168,13 +172,13 @@ test-directed: build
 test-calls: build
 	@echo "$@: seed $(SEED)"
 	$(BIN)/plain/differential --form random --calls $(CALLS) --seed $(SEED)
-	$(BIN)/checked/differential --form random --calls $(CALLS) --seed $(SEED)
-	$(if $(LIB),$(BIN)/checked/differential --form random --calls $(CALLS) --seed $(SEED) --of optimised)
+	$(BIN)/checked/differential --form random --calls $(CHECKED_CALLS) --seed $(SEED)
+	$(if $(LIB),$(BIN)/checked/differential --form random --calls $(CHECKED_CALLS) --seed $(SEED) --of optimised)
 
 # Each fault in a copy of the reference, which stands in for the library.
 test-faults: $(DIFFERENTIAL:%=$(OBJ)/plain/%)
-	python3 tests/host/test_faults.py --cc $(call quote,$(CC)) --cflags $(call quote,$(C11) $(CPPFLAGS) $(CFLAGS)) \
-	    --ldflags $(call quote,$(LDFLAGS)) --objects $(call quote,$^) --out $(OBJ)/faults \
+	python3 tests/host/test_faults.py --cc $(call quote,$(CC)) --cflags=$(call quote,$(C11) $(CPPFLAGS) $(CFLAGS)) \
+	    --ldflags=$(call quote,$(LDFLAGS)) --objects $(call quote,$^) --out $(OBJ)/faults \
 	    --seeds $(call quote,$(FAULT_SEEDS)) --calls $(CALLS) --forms random,directed
 
 # Each instruction of the library with a fault in it; some faults change nothing, and survive.

@@ -1,6 +1,6 @@
 """Shows which faults in the archive's machine code the differential test finds.
 
-usage: test_machine_faults.py PROGRAM ARCHIVE --out DIR [--seed 1] [--calls 200000] [--jobs 2] [--seconds 40]
+usage: test_machine_faults.py PROGRAM ARCHIVE --out DIR [--seed 1] [--calls 200000] [--jobs 2]
                               [--only ADDRESS_OR_SUBSTRING] [--sample N] [--most PERCENT]
 
 PROGRAM is `differential` linked with ARCHIVE. Each fault is put into a copy of
@@ -13,9 +13,8 @@ it, in one instruction of the archive's functions:
 
 The directed lists run first, and the random ones if those find nothing. A run
 catches a fault if it ends with status 1 and says FAILED. It has hung if it
-takes more seconds of processor time than are given, and has died if a signal
-ends it: the fault is caught then too. PROGRAM itself has to pass both forms,
-each in half of the seconds.
+takes far more processor time than PROGRAM itself, which runs before all and
+has to pass, and it has died if a signal ends it: the fault is caught then too.
 
 Each fault that survives gets a line, and its program stays in DIR. One that
 changes no reply and no byte on any input cannot be caught; which these are has
@@ -32,6 +31,7 @@ import functools
 import pathlib
 import random
 import re
+import resource
 import signal
 import subprocess
 import sys
@@ -54,8 +54,7 @@ UNREAD = bytes.fromhex("62 C4 C5")
 # Opcodes of one byte that an immediate follows at once.
 SHORT = {*range(0xB0, 0xC0), 0x68, 0x6A, 0xA8, 0xA9, *(op for op in range(0x40) if op & 7 in (4, 5))}
 
-SYMBOL = re.compile(r"^[0-9a-f]+ ([0-9a-f]+) [Tt] (.+)$", re.MULTILINE)
-PLACED = re.compile(r"^([0-9a-f]+) ([0-9a-f]+) [Tt] (.+)$", re.MULTILINE)
+SYMBOL = re.compile(r"^([0-9a-f]+) ([0-9a-f]+) [Tt] (.+)$", re.MULTILINE)
 LOADED = re.compile(r"^ +LOAD +0x([0-9a-f]+) 0x([0-9a-f]+) 0x[0-9a-f]+ 0x([0-9a-f]+) ", re.MULTILINE)
 LINE = re.compile(r"^ +([0-9a-f]+):\t((?:[0-9a-f]{2} )+) *\t(.+)$", re.MULTILINE)
 PADDING = re.compile(r"\b(?:nop[wl]?|int3|ud2|xchg +%ax,%ax)\b")
@@ -65,6 +64,7 @@ FAILED = re.compile(r"^FAILED", re.MULTILINE)
 
 # A program under a limit of processor time, which ends it by a signal, and without a core.
 LIMITED = 'ulimit -c 0 && ulimit -S -t "$0" && exec "$@"'
+CONTROL_SECONDS = 600
 
 Function = collections.namedtuple("Function", "name start end")
 Instruction = collections.namedtuple("Instruction", "function address code text")
@@ -77,16 +77,19 @@ class Wrong(Exception):
 
 
 def output_of(*command):
-    return subprocess.run(list(map(str, command)), capture_output=True, text=True, check=True).stdout
+    done = subprocess.run(list(map(str, command)), capture_output=True, text=True)
+    if done.returncode != 0:
+        raise Wrong(f"{command[0]}: {done.stderr.strip()}")
+    return done.stdout
 
 
 # ---- The instructions ----
 
 def functions_of(program, archive):
     """The archive's functions as they stand in the program."""
-    sizes = {name: int(size, 16) for size, name in SYMBOL.findall(output_of("nm", "-S", archive))}
+    sizes = {name: int(size, 16) for _, size, name in SYMBOL.findall(output_of("nm", "-S", archive))}
     placed = collections.defaultdict(list)
-    for start, size, name in PLACED.findall(output_of("nm", "-S", program)):
+    for start, size, name in SYMBOL.findall(output_of("nm", "-S", program)):
         placed[name].append(Function(name, int(start, 16), int(start, 16) + int(size, 16)))
     for name, size in sizes.items():
         if [function.end - function.start for function in placed[name]] != [size]:
@@ -233,7 +236,7 @@ class Image:
 
 
 def run(options, program, form, seconds):
-    """How a run ends: the form if it catches, or hung, died or survived."""
+    """How a run ends: the form if it catches, or hung, died or survived. The seconds are its limit."""
     command = ["sh", "-c", LIMITED, seconds, program, "--form", form, "--seed", options.seed]
     if form == "random":
         command += ["--calls", options.calls]
@@ -260,20 +263,34 @@ def run_forms(options, program, seconds):
     return SURVIVED
 
 
-def end_of(options, image, fault):
+def processor_seconds():
+    return resource.getrusage(resource.RUSAGE_CHILDREN).ru_utime
+
+
+def limit_of(options):
+    """Runs the program without a fault; gives the limit for those with one."""
+    start = processor_seconds()
+    end = run_forms(options, options.program, CONTROL_SECONDS)
+    if end != SURVIVED:
+        raise Wrong(f"the program without a fault does not pass: {end}")
+    return 10 + 3 * int(processor_seconds() - start)
+
+
+def end_of(options, image, limit, fault):
     program = options.out / f"{fault.instruction.address:x}.{fault.at}.{fault.new.hex()}"
     program.write_bytes(image.with_fault(fault))
     program.chmod(0o755)
-    end = run_forms(options, program, options.seconds)
+    end = run_forms(options, program, limit)
     if end != SURVIVED:
         program.unlink()
     return end
 
 
-def ends_of(options, image, faults):
+def ends_of(options, faults):
+    end_of_one = functools.partial(end_of, options, Image(options.program), limit_of(options))
     # Processes, not threads: a program cannot start while a process that is about to start another has it open.
     with concurrent.futures.ProcessPoolExecutor(options.jobs) as pool:
-        yield from pool.map(functools.partial(end_of, options, image), faults)
+        yield from pool.map(end_of_one, faults)
 
 
 # ---- The report ----
@@ -289,16 +306,18 @@ def tell(faults, counts):
     return share
 
 
+def path(text):
+    return pathlib.Path(text).resolve()
+
+
 def read_options():
     parser = argparse.ArgumentParser()
-    path = lambda text: pathlib.Path(text).resolve()
     parser.add_argument("program", type=path)
     parser.add_argument("archive", type=path)
     parser.add_argument("--out", type=path, required=True)
     parser.add_argument("--seed", type=int, default=1)
     parser.add_argument("--calls", type=int, default=200000)
     parser.add_argument("--jobs", type=int, default=2)
-    parser.add_argument("--seconds", type=int, default=40)
     parser.add_argument("--only")
     parser.add_argument("--sample", type=int)
     parser.add_argument("--most", type=float)
@@ -310,11 +329,8 @@ def main():
     options.out.mkdir(parents=True, exist_ok=True)
     faults = chosen(options, faults_of(options.program, options.archive))
     start = time.monotonic()
-    end = run_forms(options, options.program, options.seconds // 2)
-    if end != SURVIVED:
-        raise Wrong(f"the program without a fault does not pass: {end}")
     counts = collections.Counter()
-    for fault, end in zip(faults, ends_of(options, Image(options.program), faults)):
+    for fault, end in zip(faults, ends_of(options, faults)):
         counts[fault.kind, end] += 1
         if end == SURVIVED:
             print("SURVIVED:", line_of(fault), flush=True)

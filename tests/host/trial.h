@@ -38,7 +38,8 @@ trial trial_make(const implementation *tested, const implementation *reference);
  * or takes so many seconds fails it. */
 bool trial_passes(trial *t, const list *l, tally *counts, unsigned seconds);
 
-/* Leaves steps out of a list that fails, as long as it fails. */
+/* Leaves steps out of a list that fails, as long as it fails and for some
+ * seconds; says so if it does not fail again. */
 void trial_shrink(trial *t, list *l);
 
 /* Tells what the last trial came to. */
