@@ -1,8 +1,9 @@
-// The ten calls: each replies as `reply` says and leaves the table as `after` says, on any bytes and numbers. Every call but lay asks first
-// whether the table is sound.
+// The calls as C links them, on any bytes and numbers. Each of the ten calls on a table replies as `reply` says and leaves the table as `after` says;
+// every one but lay asks first whether the table is sound. Votes looks at no table.
 ghost use mathlib.Core.Path.{_≡_};
 ghost use Rattle.rules.specs.Calls.{lay, openRead, openWrite, openChange, poll, put, commit, abandon, link, reach};
 ghost use Rattle.rules.specs.Reply.{reply, after};
+ghost use Rattle.votes.specs.Votes.{votesReply, votesOutput};
 use calls::commit_on;
 use calls::link_on;
 use calls::poll_on;
@@ -18,6 +19,7 @@ use openings::open_read_on;
 use openings::open_write_on;
 use rules::Reply;
 use soundness::is_sound;
+use vote_search::votes_to_configuration;
 use writes::lay_bytes;
 
 #[no_mangle]
@@ -135,4 +137,12 @@ pub extern "C" fn ospreyscreen_reach(table: &[u8], i: u64) -> Reply
         return plain(UNSOUND);
     }
     reach_on(table, i)
+}
+
+#[no_mangle]
+pub extern "C" fn ospreyscreen_votes(votes: &[u8], read: u64, write: u64, out: &mut [u8]) -> Reply
+    ensures { λ r. ⌜ r ≡ votesReply (now (votes .entry)) read write (now (out .entry)) ⌝ }
+    ensures { λ _. ⌜ now (out .exit) ≡ votesOutput (now (votes .entry)) read write (now (out .entry)) ⌝ }
+{
+    plain(votes_to_configuration(votes, read, write, out))
 }

@@ -1,0 +1,159 @@
+-- The claims of the configuration that votes give.
+use mathlib.Core.Path.{_≡_, refl}
+use mathlib.Core.Bool.{Bool, true, false, _||_}
+use mathlib.Core.List.{List}
+use mathlib.Core.Logic.{_↔_, _⊎_, inl, inr, Iff·trans}
+use Prim.Native.Nat.{ℕ, suc, _+_, _≤_}
+use native.Mathlib.Omega.{arith}
+use lib.Dec.{eqb}
+use lib.ListN.{length}
+use borrow.Author.Tests.{ltb-true, lt-ltb, leb-true, le-leb, eqb-true, eq-eqb, ne-eqb}
+use Rattle.basics.specs.Tests.{all}
+use Rattle.basics.proofs.Tests.{_also_, all-true, true-all, or-false-left, or-false-right}
+use Rattle.quorum.specs.Configurations.{configSize, readSet, writeSet}
+use Rattle.quorum.specs.Promise.{Valid}
+use Rattle.quorum.proofs.Promise.{promise}
+use Rattle.layout.specs.Layout.{tableLength}
+use Rattle.layout.specs.View.{Table, view}
+use Rattle.rules.specs.Calls.{lay}
+use Rattle.rules.specs.Needs.{needs, Gets}
+use Rattle.rules.specs.Reply.{reply}
+use Rattle.rules.proofs.Quorums.{passes, negated}
+use Rattle.rules.proofs.Chains.{Decides, exactly}
+use Rattle.rules.proofs.Judged.{numbered}
+use Rattle.votes.specs.Votes.{total, trueVotes, tooMany, votesRefusals, votesNumber, sideBytes, configurationOf, votesOutput}
+use Rattle.votes.specs.Claims.{MoreThanEight, TrueVotes, votesNeeds, Configured, Claims}
+use Rattle.votes.proofs.Laws.{sets-share, no-less}
+use Rattle.votes.proofs.Listing.{more-than-eight}
+use Rattle.votes.proofs.Places.{length-config, bytes-config, read-back, written-back}
+use Rattle.votes.proofs.Sides.{Filled, fill, lists, holds-exactly, is-side}
+
+-- ---- the number
+pub true-votes : (votes : List ℕ) (read write : ℕ) → (all (trueVotes votes read write) ≡ true) ↔ TrueVotes votes read write
+unfolding trueVotes
+true-votes votes read write = (
+  λ e. let t = all-true (trueVotes votes read write) e in
+      let u = t .1 .1 in
+      let v = u .1 .1 in
+      record {
+        some = leb-true 1 (length votes) (t .0);
+        few = leb-true (length votes) 16 (t .1 .0);
+        read-positive = leb-true 1 read (u .0);
+        read-reached = leb-true read (total votes) (u .1 .0);
+        write-positive = leb-true 1 write (v .0);
+        write-reached = leb-true write (total votes) (v .1 .0);
+        together = ltb-true (total votes) (read + write) (v .1 .1 .0);
+      },
+  λ t. true-all (trueVotes votes read write)
+      (le-leb 1 (length votes) (t .some)
+      also le-leb (length votes) 16 (t .few)
+      also le-leb 1 read (t .read-positive)
+      also le-leb read (total votes) (t .read-reached)
+      also le-leb 1 write (t .write-positive)
+      also le-leb write (total votes) (t .write-reached)
+      also lt-ltb (total votes) (read + write) (t .together)
+      also tt),
+)
+
+neither : (a b : Bool) {A B : Type 0} → (a ≡ true) ↔ A → (b ≡ true) ↔ B → ((a || b) ≡ false) ↔ ((A → ⊥) × (B → ⊥))
+neither a b p q = (
+  λ e. (negated a p .0 (or-false-left a b e), negated b q .0 (or-false-right a b e)),
+  λ h. rw (negated a p .1 (h .0)) (negated b q .1 (h .1)),
+)
+
+module _ (votes : List ℕ) (read write : ℕ) (out : List ℕ) where
+  decided : Decides (votesRefusals votes read write out) (votesNeeds votes read write out)
+  unfolding votesRefusals
+  decided = (
+    refl,
+    passes (eqb (length out) configSize) (eqb-true _ _, eq-eqb _ _),
+    λ _. (
+      refl,
+      passes (all (trueVotes votes read write)) (true-votes votes read write),
+      λ _. (refl, neither (tooMany votes read) (tooMany votes write) (more-than-eight votes read) (more-than-eight votes write), λ _. tt),
+    ),
+  )
+
+  number-gets : (k : ℕ) → (votesNumber votes read write out ≡ k) ↔ Gets (votesNeeds votes read write out) k
+  unfolding votesNumber
+  number-gets = exactly (votesRefusals votes read write out) (votesNeeds votes read write out) decided
+
+  -- ---- the output
+  output-done : votesNumber votes read write out ≡ 0 → votesOutput votes read write out ≡ configurationOf votes read write
+  unfolding votesOutput
+  output-done e = rw (eq-eqb (votesNumber votes read write out) 0 e)
+
+  output-refused : (votesNumber votes read write out ≡ 0 → ⊥) → votesOutput votes read write out ≡ out
+  unfolding votesOutput
+  output-refused h = rw (ne-eqb (votesNumber votes read write out) 0 h)
+
+-- 0 is no need's number: where it is given, the first need holds, and 0 is given after it
+holds : {A B : Type 0} (k : ℕ) → ((A → ⊥) × (0 ≡ suc k)) ⊎ (A × B) → A × B
+holds k (inl p) = let z = p .1 in absurd (omega arith)
+holds k (inr h) = h
+
+-- ---- the configuration of true votes, with no more than eight sets on a side
+module _ (votes : List ℕ) (read write : ℕ) (sheet : TrueVotes votes read write)
+    (no-more : (MoreThanEight votes read → ⊥) × (MoreThanEight votes write → ⊥)) where
+  abbrev config : List ℕ
+  config = configurationOf votes read write
+
+  reads : Filled votes read (readSet config)
+  unfolding configurationOf sideBytes
+  reads = fill votes read (readSet config) (sheet .few) (sheet .read-positive) (sheet .read-reached) (no-more .0) (read-back _ _)
+
+  writes : Filled votes write (writeSet config)
+  unfolding configurationOf sideBytes
+  writes = fill votes write (writeSet config) (sheet .few) (sheet .write-positive) (sheet .write-reached) (no-more .1) (written-back _ _)
+
+  facts : Valid (length votes) config
+  unfolding configurationOf sideBytes
+  facts =
+      record {
+        positive = sheet .some;
+        small = sheet .few;
+        long = length-config _ _;
+        reads = is-side reads;
+        writes = is-side writes;
+        meet = λ j k l m p q.
+            let s = sets-share votes read write _ _ (sheet .together) (lists reads .only j l p .enough) (lists writes .only k m q .enough) in
+            (s .0, s .2 .0, s .2 .1);
+      }
+
+  lay-takes : (table : Table) (m value : ℕ) → 1 ≤ m → m ≤ 32 → length table ≡ tableLength (length votes) m
+      → reply table (lay (length votes) m value config) .number ≡ 0
+  unfolding needs view
+  lay-takes table m value low high long =
+      numbered .done-exactly table (lay (length votes) m value config) .1
+      ((sheet .some, sheet .few, low, high), (eq-eqb (length table) (tableLength (length votes) m) long, (facts, tt)))
+
+  configured : Configured votes read write config
+  unfolding configurationOf sideBytes
+  configured =
+      record {
+        bytes = bytes-config _ _;
+        is-valid = promise .valid-exactly (length votes) config .1 facts;
+        read-exactly = λ set. Iff·trans (promise .holds-read config set) (holds-exactly reads set);
+        write-exactly = λ set. Iff·trans (promise .holds-write config set) (holds-exactly writes set);
+        reads = lists reads;
+        writes = lists writes;
+        lay-takes = lay-takes;
+      }
+
+done : (votes : List ℕ) (read write : ℕ) (out : List ℕ) → votesNumber votes read write out ≡ 0
+    → Configured votes read write (votesOutput votes read write out)
+done votes read write out e =
+    let long = holds 1 (number-gets votes read write out 0 .0 e) in
+    let sheet = holds 12 (long .1) in
+    let no-more = holds 13 (sheet .1) in
+    rw (output-done votes read write out e) (configured votes read write (sheet .0) (no-more .0))
+
+pub claims : Claims
+claims =
+    record {
+      number-exactly = number-gets;
+      done = done;
+      refused = output-refused;
+      sets-share = sets-share;
+      no-less = no-less;
+    }
