@@ -3,13 +3,12 @@ use mathlib.Core.Path.{_≡_, refl}
 use mathlib.Core.Bool.{Bool, true, false, _||_}
 use mathlib.Core.List.{List}
 use mathlib.Core.Logic.{_↔_, _⊎_, inl, inr, Iff·trans}
-use Prim.Native.Nat.{ℕ, suc, _+_, _≤_}
-use native.Mathlib.Omega.{arith}
+use Prim.Native.Nat.{ℕ, _+_, _≤_}
 use lib.Dec.{eqb}
 use lib.ListN.{length}
-use borrow.Author.Tests.{ltb-true, lt-ltb, leb-true, le-leb, eqb-true, eq-eqb, ne-eqb}
+use borrow.Author.Tests.{ltb-true, lt-ltb, leb-true, le-leb, eqb-true, eqb-false, eq-eqb, ne-eqb}
 use Rattle.basics.specs.Tests.{all}
-use Rattle.basics.proofs.Tests.{_also_, all-true, true-all, or-false-left, or-false-right}
+use Rattle.basics.proofs.Tests.{_also_, either, all-true, true-all, or-false-left, or-false-right}
 use Rattle.quorum.specs.Configurations.{configSize, readSet, writeSet}
 use Rattle.quorum.specs.Promise.{Valid}
 use Rattle.quorum.proofs.Promise.{promise}
@@ -23,7 +22,7 @@ use Rattle.rules.proofs.Chains.{Decides, exactly}
 use Rattle.rules.proofs.Judged.{numbered}
 use Rattle.votes.specs.Votes.{total, trueVotes, tooMany, votesRefusals, votesNumber, sideBytes, configurationOf, votesOutput}
 use Rattle.votes.specs.Claims.{MoreThanEight, TrueVotes, votesNeeds, Configured, Claims}
-use Rattle.votes.proofs.Laws.{sets-share, no-less}
+use Rattle.votes.proofs.Laws.{no-votes, its-votes, votes-full, sets-share, no-less}
 use Rattle.votes.proofs.Listing.{more-than-eight}
 use Rattle.votes.proofs.Places.{length-config, bytes-config, read-back, written-back}
 use Rattle.votes.proofs.Sides.{Filled, fill, lists, holds-exactly, is-side}
@@ -87,10 +86,10 @@ module _ (votes : List ℕ) (read write : ℕ) (out : List ℕ) where
   unfolding votesOutput
   output-refused h = rw (ne-eqb (votesNumber votes read write out) 0 h)
 
--- 0 is no need's number: where it is given, the first need holds, and 0 is given after it
-holds : {A B : Type 0} (k : ℕ) → ((A → ⊥) × (0 ≡ suc k)) ⊎ (A × B) → A × B
-holds k (inl p) = let z = p .1 in absurd (omega arith)
-holds k (inr h) = h
+-- where another number than a need's is given, the need holds, and the number is given after it
+holds : {A B : Type 0} (given its : ℕ) → eqb given its ≡ false → ((A → ⊥) × (given ≡ its)) ⊎ (A × B) → A × B
+holds given its other (inl p) = absurd (eqb-false given its other (p .1))
+holds given its other (inr h) = h
 
 -- ---- the configuration of true votes, with no more than eight sets on a side
 module _ (votes : List ℕ) (read write : ℕ) (sheet : TrueVotes votes read write)
@@ -143,17 +142,47 @@ module _ (votes : List ℕ) (read write : ℕ) (sheet : TrueVotes votes read wri
 done : (votes : List ℕ) (read write : ℕ) (out : List ℕ) → votesNumber votes read write out ≡ 0
     → Configured votes read write (votesOutput votes read write out)
 done votes read write out e =
-    let long = holds 1 (number-gets votes read write out 0 .0 e) in
-    let sheet = holds 12 (long .1) in
-    let no-more = holds 13 (sheet .1) in
+    let long = holds 0 2 refl (number-gets votes read write out 0 .0 e) in
+    let sheet = holds 0 13 refl (long .1) in
+    let no-more = holds 0 14 refl (sheet .1) in
     rw (output-done votes read write out e) (configured votes read write (sheet .0) (no-more .0))
+
+-- one of the two sides has too many sets, where not neither has
+one-side : (votes : List ℕ) (read write : ℕ) → (((MoreThanEight votes read → ⊥) × (MoreThanEight votes write → ⊥)) → ⊥)
+    → MoreThanEight votes read ⊎ MoreThanEight votes write
+one-side votes read write h =
+    let reads = more-than-eight votes read in let writes = more-than-eight votes write in
+    either (tooMany votes read) (λ e. inl (reads .0 e))
+    (λ e. either (tooMany votes write) (λ d. inr (writes .0 d)) (λ d. absurd (h (negated _ reads .0 e, negated _ writes .0 d))))
+
+not-neither : {A B : Type 0} → A ⊎ B → ((A → ⊥) × (B → ⊥)) → ⊥
+not-neither (inl a) n = n .0 a
+not-neither (inr b) n = n .1 b
+
+too-many : (votes : List ℕ) (read write : ℕ) (out : List ℕ) → (votesNumber votes read write out ≡ 14)
+    ↔ ((length out ≡ configSize) × TrueVotes votes read write × (MoreThanEight votes read ⊎ MoreThanEight votes write))
+too-many votes read write out = (
+  λ e. let long = holds 14 2 refl (number-gets votes read write out 14 .0 e) in
+      let sheet = holds 14 13 refl (long .1) in
+      (long .0, sheet .0, one-side votes read write (λ n. last (sheet .1) n)),
+  λ h. number-gets votes read write out 14 .1 (inr (h .0, inr (h .1, inl (not-neither (h .2), refl)))),
+)
+  where
+    last : {A : Type 0} → ((A → ⊥) × (_≡_ {A = ℕ} 14 14)) ⊎ (A × (_≡_ {A = ℕ} 14 0)) → A → ⊥
+    last (inl p) = p .0
+    last (inr p) = absurd (eqb-false 14 0 refl (p .1))
 
 pub claims : Claims
 claims =
     record {
-      number-exactly = number-gets;
-      done = done;
-      refused = output-refused;
+      no-votes = no-votes;
+      its-votes = its-votes;
+      all-votes = votes-full;
       sets-share = sets-share;
       no-less = no-less;
+      number-exactly = number-gets;
+      too-many = too-many;
+      no-figures = λ votes read write out. (refl, refl, refl);
+      done = done;
+      refused = output-refused;
     }

@@ -7,8 +7,8 @@ use Prim.Native.Nat.{ℕ, zero, suc, _+_, _^_, _≤_, _<_}
 use native.Mathlib.Nat.{not-suc-le-zero}
 use native.Mathlib.Omega.{arith}
 use lib.Dec.{ltb, eqb}
-use lib.ListN.{length, getD}
-use borrow.Author.Tests.{ltb-true, lt-ltb, leb-true, le-leb, eqb-true, eqb-false, eq-eqb, ne-eqb, not-true, not-false}
+use lib.ListN.{length, getD, List·getD-eq-default}
+use borrow.Author.Tests.{ltb-true, ltb-false, lt-ltb, leb-true, le-leb, eqb-true, eqb-false, eq-eqb, ne-eqb, not-true, not-false}
 use Rattle.basics.specs.Tests.{anyBelow, Some}
 use Rattle.basics.proofs.Tests.{clash, either, fails, and-left, and-right, and-both, implies, implied, all-below, below-all, any-below, below-any}
 use Rattle.quorum.specs.Sets.{member, within, minus, remove, full}
@@ -22,6 +22,11 @@ pub sum-same : (f g : ℕ → ℕ) (n : ℕ) → ((i : ℕ) → i < n → f i �
 unfolding sumBelow
 sum-same f g zero e = refl
 sum-same f g (suc n) e = rw (sum-same f g n (λ i l. e i (omega arith)), e n (omega arith))
+
+sum-zeros : (n : ℕ) → sumBelow (λ _. 0) n ≡ 0
+unfolding sumBelow
+sum-zeros zero = refl
+sum-zeros (suc n) = rw (sum-zeros n)
 
 sum-grows : (f g : ℕ → ℕ) (n : ℕ) → ((i : ℕ) → i < n → f i ≤ g i) → sumBelow f n ≤ sumBelow g n
 unfolding sumBelow
@@ -75,7 +80,23 @@ left-out votes set i m l =
     sum-but-one _ _ (length votes) i (getD votes i 0) l (λ j other. rw (promise .member-remove set j i, ne-eqb j i other, and-true (member set j)))
     (rw (promise .member-remove set i i, m, eq-eqb i i refl) (omega arith))
 
--- why the thresholds must exceed the total together: two sets that reach them share a station
+-- one that is not on the sheet has none
+not-listed : (votes : List ℕ) (set i : ℕ) → length votes ≤ i → votesOf votes (remove set i) ≡ votesOf votes set
+unfolding votesOf
+not-listed votes set i l =
+    sum-same _ _ (length votes) (λ j h. rw (promise .member-remove set j i, ne-eqb j i (λ e. omega arith), and-true (member set j)))
+
+pub its-votes : (votes : List ℕ) (set i : ℕ) → member set i ≡ true → votesOf votes set ≡ votesOf votes (remove set i) + getD votes i 0
+its-votes votes set i m =
+    either (ltb i (length votes))
+    (λ e. sym (left-out votes set i m (ltb-true i (length votes) e)))
+    (λ e. let beyond = ltb-false i (length votes) e in omega (arith, not-listed votes set i beyond, List·getD-eq-default votes 0 beyond))
+
+pub no-votes : (votes : List ℕ) → votesOf votes 0 ≡ 0
+unfolding votesOf
+no-votes votes = sum-same _ (λ _. 0) (length votes) (λ i _. rw (promise .member-empty i)) ∙ sum-zeros (length votes)
+
+-- two sets that reach the two thresholds share a station
 pub sets-share : (votes : List ℕ) (read write a b : ℕ) → total votes < read + write → Reaches votes read a → Reaches votes write b
     → Some (length votes) (λ i. (member a i ≡ true) × (member b i ≡ true))
 sets-share votes read write a b exceed reads writes =

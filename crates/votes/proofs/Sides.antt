@@ -14,7 +14,7 @@ use Rattle.quorum.specs.Sets.{member, used, full}
 use Rattle.quorum.specs.Promise.{LiesIn, Side}
 use Rattle.quorum.proofs.Promise.{promise}
 use Rattle.votes.specs.Votes.{total, smallestSets}
-use Rattle.votes.specs.Claims.{Reaches, Smallest, MoreThanEight, Lists}
+use Rattle.votes.specs.Claims.{Reaches, Smallest, MoreThanEight, ListsSmallest}
 use Rattle.votes.proofs.Laws.{votes-grow, sets-share, votes-full, holds-smallest}
 use Rattle.votes.proofs.Listing.{Listing, smallest-listing, at-most-eight}
 
@@ -69,7 +69,7 @@ module _ {votes : List ℕ} {threshold : ℕ} {side : ℕ → ℕ} (filled : Fil
   smallest-place : (k : ℕ) → k < 8 → k < length (smallestSets votes threshold) → Smallest votes threshold (side k)
   smallest-place k l h = rw (filled .place k l) (listed .only k h)
 
-  pub lists : Lists votes threshold side
+  pub lists : ListsSmallest votes threshold side
   lists =
       record {
         every = λ set s. let at = listed .every set s in

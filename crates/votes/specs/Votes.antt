@@ -1,5 +1,6 @@
 -- Votes off the installer's sheet (document 02, 2026-01): "one byte per station, 16-bit read and write thresholds", and the configuration that
--- they give. The stations are as many as there are votes. The total of 16 bytes is at most 4,080, so a threshold that needs more than 16 bits gets 13.
+-- they give. The stations are as many as there are votes. Any number is taken as a threshold: 16 bytes have a total of 4,080 at most, so one that needs more than 16 bits
+-- is above it.
 use mathlib.Core.Bool.{Bool, not, cond, _&&_, _||_}
 use mathlib.Core.List.{List, [], _∷_, _++_}
 use Prim.Native.Nat.{ℕ, zero, suc, _+_, _^_}
@@ -29,7 +30,7 @@ total votes = sumBelow (λ i. getD votes i 0) (length votes)
 unfoldable pub reaches : List ℕ → ℕ → ℕ → Bool
 reaches votes threshold set = leb threshold (votesOf votes set)
 
--- "A smallest set reaches it and no longer does with any one station left out."
+-- "A smallest set reaches it and no longer does with any one station left out.": of sets that name no station but those with votes
 unfoldable pub smallest : List ℕ → ℕ → ℕ → Bool
 smallest votes threshold set =
     reaches votes threshold set && allBelow (λ i. not (member set i) || not (reaches votes threshold (remove set i))) (length votes)
@@ -44,7 +45,8 @@ unfoldable pub smallestSets : List ℕ → ℕ → List ℕ
 smallestSets votes threshold = passing (smallest votes threshold) (2 ^ length votes)
 
 -- ---- the reply
--- 13, false votes: "not 1 to 16 stations, a threshold of zero or above the total, or thresholds that together do not exceed the total"
+-- what votes have to pass, or they are "13 false votes (not 1 to 16 stations, a threshold of zero or above the total, or thresholds that together do
+-- not exceed the total)"
 unfoldable pub trueVotes : List ℕ → ℕ → ℕ → List Bool
 trueVotes votes read write =
     leb 1 (length votes)
@@ -85,7 +87,7 @@ places side (suc k) = places side k ++ bytesOf 2 (side k)
 unfoldable pub sideBytes : List ℕ → List ℕ
 sideBytes sets = places (λ k. getD sets k 0) 8
 
--- "the valid configuration, written into a lent 32 bytes"
+-- "the valid configuration, written into a lent 32 bytes": of a call that is done, so that no side has more sets than places
 unfoldable pub configurationOf : List ℕ → ℕ → ℕ → List ℕ
 configurationOf votes read write = sideBytes (smallestSets votes read) ++ sideBytes (smallestSets votes write)
 
