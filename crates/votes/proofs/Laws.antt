@@ -23,10 +23,10 @@ unfolding sumBelow
 sum-same f g zero e = refl
 sum-same f g (suc n) e = rw (sum-same f g n (λ i l. e i (omega arith)), e n (omega arith))
 
-sum-zeros : (n : ℕ) → sumBelow (λ _. 0) n ≡ 0
+pub sum-zero : (f : ℕ → ℕ) (n : ℕ) → ((i : ℕ) → i < n → f i ≡ 0) → sumBelow f n ≡ 0
 unfolding sumBelow
-sum-zeros zero = refl
-sum-zeros (suc n) = rw (sum-zeros n)
+sum-zero f zero h = refl
+sum-zero f (suc n) h = omega (arith, sum-zero f n (λ i l. h i (omega arith)), h n (omega arith))
 
 sum-grows : (f g : ℕ → ℕ) (n : ℕ) → ((i : ℕ) → i < n → f i ≤ g i) → sumBelow f n ≤ sumBelow g n
 unfolding sumBelow
@@ -94,7 +94,7 @@ its-votes votes set i m =
 
 pub no-votes : (votes : List ℕ) → votesOf votes 0 ≡ 0
 unfolding votesOf
-no-votes votes = sum-same _ (λ _. 0) (length votes) (λ i _. rw (promise .member-empty i)) ∙ sum-zeros (length votes)
+no-votes votes = sum-zero _ (length votes) (λ i _. rw (promise .member-empty i))
 
 -- two sets that reach the two thresholds share a station
 pub sets-share : (votes : List ℕ) (read write a b : ℕ) → total votes < read + write → Reaches votes read a → Reaches votes write b

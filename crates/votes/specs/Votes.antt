@@ -1,6 +1,6 @@
--- Votes off the installer's sheet (document 02, 2026-01): "one byte per station, 16-bit read and write thresholds", and the configuration that
--- they give. The stations are as many as there are votes. Any number is taken as a threshold: 16 bytes have a total of 4,080 at most, so one that needs more than 16 bits
--- is above it.
+-- Votes off the installer's sheet (document 02, 2026-01): "one byte per station, 16-bit read and write thresholds", and the configuration that they give.
+-- The stations are as many as there are votes. Any number is taken as a threshold: 16 bytes have a total of 4,080 at most, so one that needs more than
+-- 16 bits is above it.
 use mathlib.Core.Bool.{Bool, not, cond, _&&_, _||_}
 use mathlib.Core.List.{List, [], _∷_, _++_}
 use Prim.Native.Nat.{ℕ, zero, suc, _+_, _^_}
