@@ -4,6 +4,7 @@
 #   make run          the frame runner on examples/first-reading.hex, each reply beside its meaning
 #                     (SCRIPT=file for another file of frames)
 #   make example      builds examples/first_reading.c and examples/season.c with the library and runs them
+#   make votes        an installer's sheet as a configuration (VOTES="2 1 1 1 1" READ=3 WRITE=4 for another)
 #   make stack        the library's largest stack frame and its deepest chain of calls
 #   make install      the library, the header and a pkg-config file, below PREFIX (and DESTDIR)
 #   make uninstall    removes these three files
@@ -11,7 +12,7 @@
 #   make test-host    the library and the runner against an independent implementation, under 90 seconds
 #   make test-faults  the tests of calls against planted faults, each of which they have to find
 #   make test-machine the same with faults planted in the library's machine code
-#   make soak         10 million calls and 10 million frame lines, from a new seed each time
+#   make soak         10 million calls, sheets of votes and frame lines each, from a new seed each time
 #   make season       seasons of one house, 10^9 calls in a night (SEED and FROM to go on where one ended)
 #   make bench        times beside an optimised C implementation
 #   make clean        removes what was made
@@ -22,8 +23,11 @@
 
 PREFIX ?= /usr/local
 DESTDIR ?=
-# From the command line alone: some systems export a SCRIPT of their own.
+# From the command line alone: some systems export a SCRIPT of their own, or a READ.
 SCRIPT := examples/first-reading.hex
+VOTES := 2 1 1 1 1
+READ := 3
+WRITE := 4
 # The header has the version; here it is put together for pkg-config.
 VERSION := $(shell awk '$$2 ~ /^OSPREYSCREEN_VERSION_(MAJOR|MINOR|PATCH)$$/ { printf dot $$3; dot = "." }' \
     include/ospreyscreen.h)
@@ -32,6 +36,7 @@ LIB := build/libospreyscreen.a
 HEADER := build/ospreyscreen.h
 RUNNER := build/frame_runner
 EXAMPLES := build/first_reading build/season
+VOTES_EXAMPLE := build/votes
 HOST_TESTS := test-host test-faults test-machine soak season bench
 SOURCES := crates.txt $(shell find crates -name '*.rt' -o -name '*.antt')
 
@@ -43,7 +48,7 @@ quote = '$(subst ','\'',$(1))'
 LOCK := build/rt.lock
 .NOTPARALLEL:
 .DELETE_ON_ERROR:
-.PHONY: lib run example stack install uninstall test $(HOST_TESTS) clean help $(EXAMPLES)
+.PHONY: lib run example votes stack install uninstall test $(HOST_TESTS) clean help $(EXAMPLES) $(VOTES_EXAMPLE)
 
 lib: $(LIB) $(HEADER)
 
@@ -67,12 +72,15 @@ run: $(RUNNER)
 	@status=$$(cat build/run.status) && exit $$status
 
 # Small enough to be built each time, with the compiler and the flags of this time.
-$(EXAMPLES): build/%: examples/%.c $(LIB) $(HEADER)
+$(EXAMPLES) $(VOTES_EXAMPLE): build/%: examples/%.c $(LIB) $(HEADER)
 	$(CC) -std=c11 -Wall -Wextra -Ibuild $(CPPFLAGS) $(CFLAGS) $(LDFLAGS) $< $(LIB) $(LDLIBS) -o $@
 
 example: $(EXAMPLES)
 	build/first_reading
 	build/season
+
+votes: $(VOTES_EXAMPLE)
+	@$(VOTES_EXAMPLE) $(call quote,$(VOTES)) $(call quote,$(READ)) $(call quote,$(WRITE))
 
 stack: $(LIB)
 	tools/stack $(LIB)

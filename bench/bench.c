@@ -1,8 +1,9 @@
 /*
  * Times the library beside the optimised C in one run.
  *
- *   bench [--samples N]             a Markdown table: calls, whole rounds and
- *                                   refusals; behind it the highest ratios
+ *   bench [--samples N]             a Markdown table: calls, whole rounds,
+ *                                   refusals and votes; behind it the highest
+ *                                   ratios
  *   bench --growth [--samples N]    a CSV table: cost against the number of copies
  *
  * A sample is the mean time of a batch of runs. Batches of the two
@@ -11,23 +12,24 @@
  * changes what the next one would do, it first copies the head, or the head
  * and the item's copies, from a saved table; that is in the time of both.
  */
-#define _POSIX_C_SOURCE 200809L /* clock_gettime */
-
 #include "calls.h"
 #include "configurations.h"
 #include "optimised.h"
 #include "options.h"
+#include "times.h"
+#include "votes_rows.h"
 
 #include <stdio.h>
 #include <stdlib.h>
 #include <string.h>
-#include <time.h>
 
 static const implementation LIBRARY = IMPLEMENTATION("library", ospreyscreen_);
 static const implementation OPTIMISED = IMPLEMENTATION("optimised", opt_);
+static const implementation *const WITH[SIDES] = {
+    [LIBRARY_SIDE] = &LIBRARY,
+    [OPTIMISED_SIDE] = &OPTIMISED,
+};
 
-enum { SAMPLES_MOST = 10001, SIDES = 2 };
-static const double BATCH_NS = 20000;
 static const double WARM_UP_NS = 3e8;
 
 /* What configurations a table's copies have: majorities, so many a side. */
@@ -47,9 +49,12 @@ static const kind KINDS[] = {
 };
 enum { KIND_COUNT = sizeof KINDS / sizeof KINDS[0] };
 
+struct row;
+
 /* A table and what is to be done on item 0 of it. */
 typedef struct {
     const kind *kind;
+    const struct row *row;
     unsigned n;
     unsigned m;
     size_t len;
@@ -66,18 +71,13 @@ typedef uint64_t run_function(const implementation *with, scene *s);
 /* How much of the table a run sets back. */
 typedef enum { NOTHING, HEAD, HEAD_AND_ITEM } extent;
 
-typedef struct {
+typedef struct row {
     const char *name;
     run_function *prepare; /* brings the table to where the run starts */
     run_function *run;
     extent set_back;
     uint64_t number; /* what every run gives */
 } row;
-
-typedef struct {
-    double minimum;
-    double median;
-} timing;
 
 /* ---- Runs ---- */
 
@@ -280,12 +280,6 @@ enum { ROW_COUNT = sizeof ROWS / sizeof ROWS[0] };
 
 /* ---- Scenes ---- */
 
-static _Noreturn void give_up(const char *what, const char *name)
-{
-    fprintf(stderr, "bench: %s: %s\n", what, name);
-    exit(EXIT_FAILURE);
-}
-
 /* Majorities, as many a side as the scene's kind says. */
 static void majorities(rng *r, const scene *s, uint8_t config[OSPREYSCREEN_CONFIGURATION_LENGTH])
 {
@@ -340,6 +334,7 @@ static void set_row(scene *s, const row *w)
 {
     static const size_t head = OSPREYSCREEN_HEAD_LENGTH;
 
+    s->row = w;
     s->set_back = w->set_back == NOTHING ? 0
                   : w->set_back == HEAD  ? head
                                          : head + (size_t)OSPREYSCREEN_COPY_LENGTH * s->n;
@@ -351,23 +346,17 @@ static void set_row(scene *s, const row *w)
 
 /* ---- Times ---- */
 
-static double now_ns(void)
+static double batch(unsigned side, void *at, unsigned runs)
 {
-    struct timespec t;
-    clock_gettime(CLOCK_MONOTONIC, &t);
-    return (double)t.tv_sec * 1e9 + (double)t.tv_nsec;
-}
-
-/* The mean time of a run in a batch of so many. */
-static double batch(const implementation *with, scene *s, const row *w, unsigned runs)
-{
+    scene *s = at;
+    const row *w = s->row;
     uint64_t wrong = 0;
 
     memcpy(s->table, s->saved, s->len);
     double start = now_ns();
     for (unsigned i = 0; i < runs; i++) {
         memcpy(s->table, s->saved, s->set_back);
-        wrong |= w->run(with, s) ^ w->number;
+        wrong |= w->run(WITH[side], s) ^ w->number;
     }
     double time = now_ns() - start;
     if (wrong != 0) {
@@ -376,122 +365,48 @@ static double batch(const implementation *with, scene *s, const row *w, unsigned
     return time / runs;
 }
 
-static unsigned runs_for(const implementation *with, scene *s, const row *w)
-{
-    unsigned runs = 1;
-    while (batch(with, s, w, runs) * runs < BATCH_NS) {
-        runs *= 2;
-    }
-    return runs;
-}
-
-static int by_size(const void *a, const void *b)
-{
-    double x = *(const double *)a;
-    double y = *(const double *)b;
-    return (x > y) - (x < y);
-}
-
-/* Times the row with both implementations, batch by batch in turn. */
-static void measure(scene *s, const row *w, unsigned samples, timing out[SIDES])
-{
-    static const implementation *const sides[SIDES] = {&LIBRARY, &OPTIMISED};
-    static double times[SIDES][SAMPLES_MOST];
-    unsigned runs = runs_for(&OPTIMISED, s, w);
-
-    for (unsigned i = 0; i < samples; i++) {
-        for (unsigned turn = 0; turn < SIDES; turn++) {
-            unsigned which = (i + turn) % SIDES;
-            times[which][i] = batch(sides[which], s, w, runs);
-        }
-    }
-    for (unsigned which = 0; which < SIDES; which++) {
-        qsort(times[which], samples, sizeof times[which][0], by_size);
-        out[which] = (timing){times[which][0], times[which][samples / 2]};
-    }
-}
-
 /* Runs a while without a result, until the processor is at its pace. */
 static void warm_up(scene *s)
 {
-    const row *w = &ROWS[0];
     double start = now_ns();
 
     set_scene(s, &KINDS[0], 3, 1);
-    set_row(s, w);
+    set_row(s, &ROWS[0]);
     while (now_ns() - start < WARM_UP_NS) {
-        batch(&LIBRARY, s, w, 100);
-        batch(&OPTIMISED, s, w, 100);
+        batch(LIBRARY_SIDE, s, 100);
+        batch(OPTIMISED_SIDE, s, 100);
     }
 }
 
 /* ---- Tables ---- */
 
-/* The highest ratio so far and where it was. */
-typedef struct {
-    double ratio;
-    char where[100];
-} peak;
-
-typedef struct {
-    peak minimum;
-    peak median;
-    unsigned rows;
-    unsigned high; /* rows with a ratio of minima above HIGH */
-} summary;
-
-static const double HIGH = 1.10;
-
-static void raise(peak *p, double ratio, const scene *s, const row *w)
+static void print_scene(scene *s, unsigned samples, summary *sum)
 {
-    if (ratio > p->ratio) {
-        p->ratio = ratio;
-        snprintf(p->where, sizeof p->where, "%u x %u, %s, %s", s->n, s->m, s->kind->name, w->name);
-    }
-}
+    char size[32];
+    timing t[SIDES];
 
-static void print_row(const scene *s, const row *w, const timing t[SIDES], summary *sum)
-{
-    double minima = t[0].minimum / t[1].minimum;
-    double medians = t[0].median / t[1].median;
-
-    printf("| %u x %u | %s | %s | %.1f | %.1f | %.2f | %.1f | %.1f | %.2f |\n", s->n, s->m,
-           s->kind->name, w->name, t[0].minimum, t[1].minimum, minima, t[0].median, t[1].median,
-           medians);
-    fflush(stdout);
-    raise(&sum->minimum, minima, s, w);
-    raise(&sum->median, medians, s, w);
-    sum->rows++;
-    sum->high += minima > HIGH;
-}
-
-static void print_summary(const summary *sum)
-{
-    printf("\nHighest ratio of minima: %.2f (%s).\n", sum->minimum.ratio, sum->minimum.where);
-    printf("Highest ratio of medians: %.2f (%s).\n", sum->median.ratio, sum->median.where);
-    printf("Rows with a ratio of minima above %.2f: %u of %u.\n", HIGH, sum->high, sum->rows);
+    snprintf(size, sizeof size, "%u x %u", s->n, s->m);
+    measure(batch, s, samples, t);
+    print_row(size, s->kind->name, s->row->name, t, sum);
 }
 
 /* All rows on three sizes. */
 static void print_table(scene *s, unsigned samples)
 {
     static const unsigned sizes[][2] = {{3, 1}, {5, 8}, {16, 32}};
-    timing t[SIDES];
     summary sum = {.rows = 0};
 
-    printf("Times in nanoseconds; `library` / `C`, minimum and median of %u samples.\n\n", samples);
-    printf("| table | configurations | call | library min | C min | ratio | library median | "
-           "C median | ratio |\n|---|---|---|---|---|---|---|---|---|\n");
+    print_heading(samples);
     for (unsigned size = 0; size < sizeof sizes / sizeof sizes[0]; size++) {
         for (unsigned k = 0; k < KIND_COUNT; k++) {
             for (unsigned i = 0; i < ROW_COUNT; i++) {
                 set_scene(s, &KINDS[k], sizes[size][0], sizes[size][1]);
                 set_row(s, &ROWS[i]);
-                measure(s, &ROWS[i], samples, t);
-                print_row(s, &ROWS[i], t, &sum);
+                print_scene(s, samples, &sum);
             }
         }
     }
+    print_votes_rows(samples, &sum);
     print_summary(&sum);
 }
 
@@ -512,8 +427,9 @@ static void print_growth_row(scene *s, const char *label, const char *name, unsi
     timing t[SIDES];
 
     set_row(s, w);
-    measure(s, w, samples, t);
-    printf("%s,%u,%u,%u,%.1f,%.1f\n", label, s->n, s->m, s->n * s->m, t[0].minimum, t[1].minimum);
+    measure(batch, s, samples, t);
+    printf("%s,%u,%u,%u,%.1f,%.1f\n", label, s->n, s->m, s->n * s->m, t[LIBRARY_SIDE].minimum,
+           t[OPTIMISED_SIDE].minimum);
     fflush(stdout);
 }
 

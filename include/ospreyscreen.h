@@ -9,10 +9,12 @@
  * time; it takes effect as a whole at its commit.
  *
  * Rules for the caller:
- * - The table and the configuration that a call gets are lent for that call.
- *   They must not overlap. A null pointer goes with length 0 only.
+ * - The table and the configuration that a call gets are lent for that call,
+ *   and so are the votes and the output of ospreyscreen_votes. They must not
+ *   overlap. A null pointer goes with length 0 only.
  * - len is the length of the table's buffer in bytes, and config_len and
- *   target_len are that of the configuration's.
+ *   target_len are that of the configuration's; votes_len and out_len are
+ *   those of the votes and of the output.
  * - Calls on one table must not run at the same time. Calls on different
  *   tables may: the library keeps no state of its own.
  * - A table needs no alignment. Nobody else writes it between calls.
@@ -37,7 +39,7 @@ extern "C" {
 
 /* The version of this header and of the library that belongs to it. */
 #define OSPREYSCREEN_VERSION_MAJOR 0
-#define OSPREYSCREEN_VERSION_MINOR 1
+#define OSPREYSCREEN_VERSION_MINOR 2
 #define OSPREYSCREEN_VERSION_PATCH 0
 #define OSPREYSCREEN_VERSION_STRING                                                                \
     OSPREYSCREEN_DOTTED_(OSPREYSCREEN_VERSION_MAJOR, OSPREYSCREEN_VERSION_MINOR,                   \
@@ -66,7 +68,8 @@ extern "C" {
 enum ospreyscreen_number {
     OSPREYSCREEN_DONE = 0,
     OSPREYSCREEN_UNSOUND = 1,             /* the table is not sound; at lay, its length does not fit */
-    OSPREYSCREEN_NO_SUCH_THING = 2,       /* station, item, put sort, link state, n or m out of range */
+    OSPREYSCREEN_NO_SUCH_THING = 2,       /* station, item, put sort, link state, n or m out of range;
+                                             at votes, the length of the output */
     OSPREYSCREEN_FALSE_CONFIGURATION = 3, /* the configuration is not valid */
     OSPREYSCREEN_BUSY = 4,                /* an opening while a round is open */
     OSPREYSCREEN_IDLE = 5,                /* no round is open */
@@ -76,10 +79,12 @@ enum ospreyscreen_number {
     OSPREYSCREEN_WRONG_PUT = 9,           /* a put in a read, or a configuration put in a write */
     OSPREYSCREEN_SPENT = 10,              /* the version or generation to be raised is 2^64 - 1 */
     OSPREYSCREEN_SHORT = 11,              /* the puts lack a write set */
-    OSPREYSCREEN_FALSE_FRAME = 12         /* given by the frame runner only, by no call below */
+    OSPREYSCREEN_FALSE_FRAME = 12,        /* given by the frame runner only, by no call below */
+    OSPREYSCREEN_FALSE_VOTES = 13,        /* not 1 to 16 stations, or thresholds that do not fit */
+    OSPREYSCREEN_TOO_MANY_SETS = 14       /* more than eight smallest sets on a side */
 };
 
-/* The calls, numbered as the frame runner's frames number them. */
+/* The calls on a table, numbered as the frame runner's frames number them. */
 enum ospreyscreen_call {
     OSPREYSCREEN_LAY = 1,
     OSPREYSCREEN_OPEN_READ = 2,
@@ -230,6 +235,25 @@ ospreyscreen_reply ospreyscreen_link(uint8_t *table, size_t len, uint64_t statio
  * Refusals: 1 table, 2 item.
  */
 ospreyscreen_reply ospreyscreen_reach(const uint8_t *table, size_t len, uint64_t item);
+
+/*
+ * Turns votes into the configuration that they stand for, as lay and
+ * open_change take it. Byte i of the votes is how many station i has, so that
+ * votes_len is the number of stations, n; read and write are the votes that a
+ * read and a write need. The read side lists the smallest sets that reach
+ * read, the write side those that reach write, each side rising as numbers. A
+ * smallest set reaches the threshold, and no longer does with any one station
+ * left out: no station of no votes is in one. So a station set holds a listed
+ * set exactly if its votes reach that threshold. The configuration is valid
+ * for n stations. Writes all 32 bytes of the output if done, and none if
+ * refused. No figures.
+ * Refusals: 2 out_len is not OSPREYSCREEN_CONFIGURATION_LENGTH, 13 votes_len
+ * is not 1 to 16, a threshold is zero or above all the votes together, or the
+ * two thresholds together do not exceed them, 14 more than eight smallest sets
+ * on a side.
+ */
+ospreyscreen_reply ospreyscreen_votes(const uint8_t *votes, size_t votes_len, uint64_t read,
+                                      uint64_t write, uint8_t *out, size_t out_len);
 
 #ifdef __cplusplus
 }

@@ -4,7 +4,7 @@
 #   make -f tests/host/host.mk test-host    short tests, under 90 seconds
 #   make -f tests/host/host.mk test-faults  the short tests of calls against each planted fault
 #   make -f tests/host/host.mk test-machine  the same with faults in the library's machine code
-#   make -f tests/host/host.mk soak         10 million calls, 10 million frame lines, from a new seed
+#   make -f tests/host/host.mk soak         10 million calls, sheets of votes and frame lines, from a new seed
 #   make -f tests/host/host.mk season       seasons of one house, 10^9 calls, from a new seed
 #   make -f tests/host/host.mk bench        times, as Markdown, CSV and SVG, in build/host/bench
 #   make -f tests/host/host.mk clean
@@ -77,19 +77,24 @@ BIN := $(OBJ)/$(LIB_KEY)
 
 # The library under its key, or the objects that stand in for it.
 ARCHIVE := $(BIN)/libospreyscreen.a
-LIBRARY := $(if $(LIB),$(ARCHIVE),standin.o optimised.o)
+LIBRARY := $(if $(LIB),$(ARCHIVE),standin.o standin_votes.o optimised.o optimised_votes.o)
 PLAIN_LIBRARY := $(LIBRARY:%.o=$(OBJ)/plain/%.o)
 THE_RUNNER := $(call quote,$(or $(RUNNER),$(BIN)/plain/runner))
 
 # The programs, one line of objects for each. Those of the second list are built with the sanitizers too.
-PROGRAMS := differential runner ref_runner random_frames print_calls cuts bench clean_frames throughput format_dump
-CHECKED_PROGRAMS := differential runner ref_runner
-EXAMPLES := examples/first_reading examples/season
+PROGRAMS := differential votes_trial runner ref_runner random_frames print_calls cuts bench clean_frames throughput \
+    format_dump
+CHECKED_PROGRAMS := differential votes_trial runner ref_runner
+EXAMPLES := examples/first_reading examples/season examples/votes
 
 LISTS := calls.o configurations.o damage.o draw.o generate.o guard.o lists.o outlook.o recorder.o reference.o runs.o
-DIFFERENTIAL := differential.o book.o directed.o optimised.o options.o season.o tally.o trial.o $(LISTS)
+DIFFERENTIAL := differential.o book.o directed.o optimised.o options.o season.o tally.o trial.o watch.o $(LISTS)
+VOTES_TRIAL := votes_trial.o calls.o configurations.o guard.o optimised.o optimised_votes.o options.o ref_votes.o \
+    votes_cases.o votes_opinion.o votes_tally.o watch.o
 OBJECTS_differential := $(DIFFERENTIAL) $(LIBRARY)
-OBJECTS_bench := bench.o calls.o configurations.o optimised.o options.o $(LIBRARY)
+OBJECTS_votes_trial := $(VOTES_TRIAL) $(LIBRARY)
+OBJECTS_bench := bench.o calls.o configurations.o optimised.o optimised_votes.o options.o times.o votes_rows.o \
+    $(LIBRARY)
 OBJECTS_clean_frames := clean_frames.o calls.o configurations.o options.o
 OBJECTS_format_dump := format_dump.o $(LIBRARY)
 OBJECTS_runner := runner.o calls.o optimised.o
@@ -100,13 +105,14 @@ OBJECTS_cuts := cuts.o
 OBJECTS_throughput := throughput.o
 OBJECTS_examples/first_reading := examples/first_reading.o $(LIBRARY)
 OBJECTS_examples/season := examples/season.o $(LIBRARY)
+OBJECTS_examples/votes := examples/votes.o $(LIBRARY)
 
 PLAIN := $(PROGRAMS:%=$(BIN)/plain/%) $(EXAMPLES:%=$(BIN)/plain/%)
 CHECKED := $(CHECKED_PROGRAMS:%=$(BIN)/checked/%) $(EXAMPLES:%=$(BIN)/checked/%)
 CXX_EXAMPLES := $(EXAMPLES:%=$(BIN)/c++17/%) $(EXAMPLES:%=$(BIN)/c++20/%)
 
-TESTS := test-header test-archive test-directed test-calls test-frames test-tool test-make test-example test-readme \
-    test-docs
+TESTS := test-header test-archive test-directed test-calls test-votes test-frames test-tool test-make test-example \
+    test-readme test-docs
 .PHONY: build test-host test-faults test-machine soak season bench clean $(TESTS)
 .DELETE_ON_ERROR:
 
@@ -175,16 +181,32 @@ test-calls: build
 	$(BIN)/checked/differential --form random --calls $(CHECKED_CALLS) --seed $(SEED)
 	$(if $(LIB),$(BIN)/checked/differential --form random --calls $(CHECKED_CALLS) --seed $(SEED) --of optimised)
 
-# Each fault in a copy of the reference, which stands in for the library.
-test-faults: $(DIFFERENTIAL:%=$(OBJ)/plain/%)
-	python3 tests/host/test_faults.py --cc $(call quote,$(CC)) --cflags=$(call quote,$(C11) $(CPPFLAGS) $(CFLAGS)) \
-	    --ldflags=$(call quote,$(LDFLAGS)) --objects $(call quote,$^) --out $(OBJ)/faults \
-	    --seeds $(call quote,$(FAULT_SEEDS)) --calls $(CALLS) --forms random,directed
+# Votes into a configuration: all small sheets, and random ones in both builds and on the optimised C.
+test-votes: build
+	@echo "$@: seed $(SEED)"
+	$(BIN)/plain/votes_trial --form directed --seed $(SEED)
+	$(BIN)/plain/votes_trial --form random --calls $(CALLS) --seed $(SEED)
+	$(BIN)/checked/votes_trial --form random --calls $(CHECKED_CALLS) --seed $(SEED)
+	$(if $(LIB),$(BIN)/checked/votes_trial --form directed --seed $(SEED) --of optimised)
+	$(if $(LIB),$(BIN)/checked/votes_trial --form random --calls $(CHECKED_CALLS) --seed $(SEED) --of optimised)
 
-# Each instruction of the library with a fault in it; some faults change nothing, and survive.
-test-machine: $(BIN)/plain/differential
-	python3 tests/host/test_machine_faults.py $< $(if $(LIB),$(ARCHIVE),"a library is needed") --out $(BIN)/machine-faults \
-	    --seed $(SEED) --calls $(CALLS) --most $(MOST_SURVIVORS)
+# Each fault in a copy of a reference, which stands in for the library; the other calls of votes are the optimised C's.
+TEST_FAULTS = python3 tests/host/test_faults.py --cc $(call quote,$(CC)) \
+    --cflags=$(call quote,$(C11) $(CPPFLAGS) $(CFLAGS)) --ldflags=$(call quote,$(LDFLAGS)) --out $(OBJ)/faults \
+    --seeds $(call quote,$(FAULT_SEEDS)) --calls $(CALLS) --forms random,directed
+FAULTY_DIFFERENTIAL := $(DIFFERENTIAL:%=$(OBJ)/plain/%)
+FAULTY_VOTES := $(VOTES_TRIAL:%=$(OBJ)/plain/%) $(OBJ)/plain/standin.o
+test-faults: $(FAULTY_DIFFERENTIAL) $(FAULTY_VOTES)
+	$(TEST_FAULTS) --objects $(call quote,$(FAULTY_VOTES)) --reference ref_votes --faults faults/votes
+	$(TEST_FAULTS) --objects $(call quote,$(FAULTY_DIFFERENTIAL)) --reference reference --faults faults
+
+# Each instruction of the library with a fault in it; some faults change nothing, and survive. What has votes in its
+# name is no part of the calls on a table, and has a test of its own.
+TEST_MACHINE = python3 tests/host/test_machine_faults.py $(1) $(if $(LIB),$(ARCHIVE),"a library is needed") \
+    --out $(BIN)/machine-faults --seed $(SEED) --calls $(CALLS) --most $(MOST_SURVIVORS) --functions $(call quote,$(2))
+test-machine: $(BIN)/plain/differential $(BIN)/plain/votes_trial
+	$(call TEST_MACHINE,$(BIN)/plain/votes_trial,vote)
+	$(call TEST_MACHINE,$(BIN)/plain/differential,^(?!.*vote))
 
 season: build
 	@echo "$@: seed $(SEED)"
@@ -215,13 +237,15 @@ test-tool: $(BIN)/plain/print_calls
 test-make:
 	python3 tests/host/test_make.py
 
-# What each example prints stands beside it: as C, with the sanitizers, as C++ of two standards.
+# What each example prints stands beside it: as C, with the sanitizers, as C++ of two standards. That of votes is given
+# words, which the others do not read.
 EXAMPLE_PROGRAMS := $(EXAMPLES:%=$(BIN)/plain/%) $(EXAMPLES:%=$(BIN)/checked/%) $(CXX_EXAMPLES)
-test-example: $(EXAMPLE_PROGRAMS)
+test-example: $(EXAMPLE_PROGRAMS) $(if $(RUNNER),,$(BIN)/plain/runner)
 	for program in $(EXAMPLE_PROGRAMS); do \
-	    $$program > $(BIN)/example.out && \
+	    $$program '2 1 1 1 1' 3 4 > $(BIN)/example.out && \
 	    cmp $(BIN)/example.out examples/$$(basename $$program).expected || exit 1; \
 	done
+	python3 tests/host/test_votes_example.py $(BIN)/checked/examples/votes $(THE_RUNNER)
 
 # The README's C snippet, as C and as C++.
 SNIPPET := $(BIN)/snippet
@@ -236,9 +260,9 @@ test-readme: $(PLAIN_LIBRARY)
 
 # Every session, configuration, dump and file name in the documents.
 test-docs: build
-	python3 tests/host/test_docs.py $(THE_RUNNER) $(BIN)/plain/format_dump
+	python3 tests/host/test_docs.py $(THE_RUNNER) $(BIN)/plain/format_dump $(BIN)/plain/examples/votes
 
-soak: test-directed test-calls test-frames
+soak: test-directed test-calls test-votes test-frames
 
 # The times stand apart from the programs, where they are found.
 TIMES := build/host/bench

@@ -1,6 +1,6 @@
 """Holds the documents to the programs and the files that they speak of.
 
-usage: test_docs.py RUNNER FORMAT_DUMP
+usage: test_docs.py RUNNER FORMAT_DUMP VOTES
 
 - Blocks that begin with ```frames: words of tools/frames, each followed by a
   line with # and the reply. The runner has to give these replies. A block that
@@ -9,6 +9,8 @@ usage: test_docs.py RUNNER FORMAT_DUMP
   survives, its words and its bytes. The runner has to find it valid, and is
   asked for the reach with every set of stations off the bus.
 - The block that begins with ```dump: FORMAT_DUMP has to print the same bytes.
+- Blocks that begin with ```votes: a make command and a line. VOTES, the example,
+  has to print that line.
 - Names of files and folders: each has to be there.
 - Names of definitions in docs/CLAIMS.md and docs/PROOFS.md: each has to stand
   in some file of the crates.
@@ -19,6 +21,7 @@ import itertools
 import math
 import pathlib
 import re
+import shlex
 import subprocess
 import sys
 import unittest
@@ -26,7 +29,7 @@ import unittest
 ROOT = pathlib.Path(__file__).resolve().parents[2]
 FRAMES = [sys.executable, str(ROOT / "tools" / "frames")]
 DOCUMENTS = [ROOT / "README.md", *sorted((ROOT / "docs").glob("*.md"))]
-RUNNER, FORMAT_DUMP = "", ""
+RUNNER, FORMAT_DUMP, VOTES = "", "", ""
 
 SURVIVES = re.compile(r"(?:reads|writes) survive (?:no|any (\d+)) drops?(?:, and (\d+) of (\d+) choices of (\d+))?")
 PATH = re.compile(r"`([\w.-]+(?:/[\w.-]+)*/?)`")
@@ -104,6 +107,18 @@ class Documents(unittest.TestCase):
                     more = [good, choices, drops] if good else [0, 0, 0]
                     self.assertEqual(said, [any_drops, *more], claim)
 
+    def test_votes(self):
+        sheets = all_blocks("votes")
+        self.assertNotEqual(sheets, [])
+        for name, (command, line) in sheets:
+            with self.subTest(document=name, command=command):
+                make, target, *given = shlex.split(command)
+                given = [word.split("=", 1) for word in given]
+                self.assertEqual([make, target, *(word for word, _ in given)],
+                                 ["make", "votes", "VOTES", "READ", "WRITE"])
+                printed = subprocess.run([VOTES, *(text for _, text in given)], capture_output=True, text=True).stdout
+                self.assertIn(line, printed.splitlines())
+
     def test_dump(self):
         printed = output_of([FORMAT_DUMP]).splitlines()
         (_, shown), = all_blocks("dump")
@@ -157,5 +172,5 @@ class Names(unittest.TestCase):
 
 
 if __name__ == "__main__":
-    RUNNER, FORMAT_DUMP = sys.argv[1:3]
+    RUNNER, FORMAT_DUMP, VOTES = sys.argv[1:4]
     unittest.main(argv=sys.argv[:1])

@@ -1,30 +1,31 @@
-"""Shows that the differential test catches every fault of faults/.
+"""Shows that a test of calls catches every fault of a folder.
 
 usage: test_faults.py --cc CC --cflags FLAGS --ldflags FLAGS --objects "A.o B.o ..." --out DIR
-                      [--seeds 1,2,3,4,5] [--calls 200000] [--jobs 2] [--only NAME]
-                      [--forms directed,random] [--both]
+                      [--reference reference] [--faults faults] [--seeds 1,2,3,4,5] [--calls 200000]
+                      [--jobs 2] [--only NAME] [--forms directed,random] [--both]
 
-A fault is one edit of reference.c:
+A fault is one edit of the reference, reference.c or another:
 
     == name
     # what is wrong
     old:
-    text that stands once in reference.c
+    text that stands once in the reference
     new:
     what stands there in its place
 
 A line that begins with # is no part of the edit, nor is a blank line after it.
 
-The faulty copy is compiled under the
-library's names and linked with the objects of `differential`, which have the
-true reference and no library: so the fault is what is tested. The lists of the
-second form run if those of the first find nothing, or with --both in any case.
+The faulty copy is compiled under the library's names and linked with the
+objects of a test program (`differential`, or `votes_trial` for ref_votes.c),
+which have the true reference and not the library's calls that it stands for: so
+the fault is what is tested. The second form runs if the first finds nothing, or
+with --both in any case.
 A seed catches a fault if a run ends with status 1 and says FAILED. A crash or
 a run without end is an error and no catch. First of all, a copy without a
 fault has to pass each form with each seed.
 
 Each fault gets a line: for each seed the form that caught it and the steps of
-the shrunk list. The exit status is 1 if a fault survives a seed, or if
+the shrunk list, if there are lists. The exit status is 1 if a fault survives a seed, or if
 anything else goes wrong.
 """
 
@@ -39,11 +40,8 @@ import sys
 
 HERE = pathlib.Path(__file__).resolve().parent
 INCLUDE = HERE.parents[1] / "include"
-FAULTS = sorted((HERE / "faults").glob("*.txt"))
-REFERENCE = HERE / "reference.c"
-HEADER = HERE / "reference.h"
 
-CALL = re.compile(r"^ospreyscreen_reply ref_(\w+)\(", re.MULTILINE)
+DECLARED = re.compile(r"^(\w+) ref_(\w+)\(", re.MULTILINE)
 SECONDS = 120
 CAUGHT, PASSED, NOT_MET = "caught", "passed", "not met"
 
@@ -52,6 +50,7 @@ FAILED = re.compile(r"^FAILED", re.MULTILINE)
 STEPS = re.compile(r", in step \d+ of (\d+)$", re.MULTILINE)
 
 Fault = collections.namedtuple("Fault", "name old new")
+# How a run ended; the steps, as words, of the list that it caught the fault with.
 Run = collections.namedtuple("Run", "form end steps")
 # The runs of each seed; or else what went wrong.
 Result = collections.namedtuple("Result", "name runs wrong")
@@ -82,18 +81,19 @@ def read_faults(text):
 def plant(source, fault):
     times = source.count(fault.old)
     if times != 1:
-        raise Wrong(f"the old text of {fault.name} stands {times} times in {REFERENCE.name}")
+        raise Wrong(f"the old text of {fault.name} stands {times} times in the reference")
     return source.replace(fault.old, fault.new)
 
 
 # ---- One program ----
 
 def build(options, name, source):
-    """The differential test with this source in the library's place."""
+    """The test program with this source in the library's place."""
     file, program = options.out / f"{name}.c", options.out / name
     file.write_text(source)
-    names = [f"-Dref_{call}=ospreyscreen_{call}" for call in CALL.findall(HEADER.read_text())]
-    names.append("-Dref_broken=fault_broken")
+    declared = DECLARED.findall(options.reference.with_suffix(".h").read_text())
+    names = [f"-Dref_{name}={'ospreyscreen' if kind == 'ospreyscreen_reply' else 'fault'}_{name}"
+             for kind, name in declared]
     command = [*options.cc, *options.cflags, "-O1", f"-I{INCLUDE}", f"-I{HERE}", *names, *options.ldflags, file,
                *options.objects, "-o", program]
     done = subprocess.run(list(map(str, command)), capture_output=True, text=True)
@@ -109,13 +109,13 @@ def run(options, program, form, seed):
     try:
         done = subprocess.run(list(map(str, command)), capture_output=True, text=True, timeout=SECONDS)
     except subprocess.TimeoutExpired:
-        raise Wrong(f"{form} lists, seed {seed}: no end in {SECONDS} s") from None
-    steps = STEPS.search(done.stdout)
-    if done.returncode == 1 and FAILED.search(done.stdout) and steps:
-        return Run(form, CAUGHT, int(steps[1]))
+        raise Wrong(f"form {form}, seed {seed}: no end in {SECONDS} s") from None
+    if done.returncode == 1 and FAILED.search(done.stdout):
+        steps = STEPS.search(done.stdout)
+        return Run(form, CAUGHT, steps[1] if steps else CAUGHT)
     if done.returncode in (0, 2):
-        return Run(form, NOT_MET if done.returncode else PASSED, 0)
-    raise Wrong(f"{form} lists, seed {seed}: status {done.returncode}\n{done.stdout}{done.stderr}")
+        return Run(form, NOT_MET if done.returncode else PASSED, "")
+    raise Wrong(f"form {form}, seed {seed}: status {done.returncode}\n{done.stdout}{done.stderr}")
 
 
 def runs_of_seed(options, program, seed):
@@ -170,7 +170,7 @@ def catching(result, forms):
 def tell_forms(options, results):
     for form in options.forms:
         counts = [sum(seed in catching(result, [form]) for result in results) for seed in options.seeds]
-        print(f"{form} lists alone catch, by seed, {', '.join(map(str, counts))} of {len(results)} faults")
+        print(f"form {form} alone catches, by seed, {', '.join(map(str, counts))} of {len(results)} faults")
 
 
 def tell(options, results):
@@ -193,6 +193,8 @@ def read_options():
     parser.add_argument("--ldflags", type=shlex.split, default=[])
     parser.add_argument("--objects", type=shlex.split, required=True)
     parser.add_argument("--out", type=lambda text: pathlib.Path(text).resolve(), required=True)
+    parser.add_argument("--reference", type=lambda name: (HERE / name).with_suffix(".c"), default="reference")
+    parser.add_argument("--faults", type=lambda name: sorted((HERE / name).glob("*.txt")), default="faults")
     parser.add_argument("--seeds", type=lambda text: list(map(int, text.split(","))), default=[1, 2, 3, 4, 5])
     parser.add_argument("--calls", type=int, default=200000)
     parser.add_argument("--jobs", type=int, default=2)
@@ -205,8 +207,9 @@ def read_options():
 def main():
     options = read_options()
     options.out.mkdir(parents=True, exist_ok=True)
-    source = REFERENCE.read_text()
-    faults = [fault for fault in read_faults("\n".join(path.read_text() for path in FAULTS)) if options.only in (None, fault.name)]
+    source = options.reference.read_text()
+    faults = [fault for fault in read_faults("\n".join(path.read_text() for path in options.faults))
+              if options.only in (None, fault.name)]
     sources = {fault.name: plant(source, fault) for fault in faults}
     if not sources:
         raise Wrong("there is no such fault")

@@ -40,6 +40,16 @@ FRAMES = [
     ("reach 0", "0A00"),
 ]
 
+# Configurations as digits: words and the frame.
+DIGITS = "03000500060009000A000C000000000007000B000D000E000000000000000000"
+DIGIT_FRAMES = [
+    (f"lay 4 1 0 {DIGITS}", "010401" + "0" * 16 + DIGITS),
+    (f"open change 0 {DIGITS}", "0400" + DIGITS),
+    (f"open change 0 {DIGITS.lower()}", "0400" + DIGITS),
+    (f"open change 7 {'F' * 64}", "0407" + "F" * 64),
+    (f"open change 7 {'0' * 64}", "0407" + "0" * 64),
+]
+
 ZEROS = "0" * 48
 
 # Reply lines and the words that they are shown as.
@@ -60,7 +70,9 @@ REPLIES = [
     ("0A0002" + ZEROS[2:], "reach: done, figures 2 0 0"),
     ("000C" + ZEROS, "call 00: refused, 12 false frame"),
     ("FF0C" + ZEROS, "call FF: refused, 12 false frame"),
-    ("010D" + ZEROS, "lay: refused, 13 unknown number"),
+    ("010D" + ZEROS, "lay: refused, 13 false votes"),
+    ("010E" + ZEROS, "lay: refused, 14 too many sets"),
+    ("010F" + ZEROS, "lay: refused, 15 unknown number"),
     ("0801" + "0" * 46 + "80", "abandon: refused, 1 unsound, figures 0 0 9223372036854775808"),
 ]
 
@@ -74,6 +86,10 @@ WRONG_WORDS = [
     "lay 3 1 500 write 0003 read 0003", "open change 0 read 10000 write 0001",
     "open change 0 read 0x01 write 0001", "open change 0 read write write",
     "open change 0 read " + "0001 " * 9 + "write 0001",
+    "open change 0", "open change 0 " + DIGITS[1:], "open change 0 " + DIGITS + "0",
+    "open change 0 " + DIGITS[:-1] + "G", f"open change 0 {DIGITS} {DIGITS}", f"open change 0 read {DIGITS}",
+    f"open change 0 {DIGITS[:32]} {DIGITS[32:]}", f"open change {DIGITS}", f"lay 4 1 {DIGITS}", f"poll 0 {DIGITS}",
+    f"open change 0 {'_'.join((DIGITS[:31], DIGITS[32:]))}",
 ]
 
 
@@ -116,6 +132,17 @@ class FramesTool(unittest.TestCase):
         got, result = output_lines("encode", lines=[words for words, _ in FRAMES])
         self.assertEqual(got, [frame for _, frame in FRAMES])
         self.assertEqual(result.returncode, 0)
+
+    def test_digits_to_frames(self):
+        got, result = output_lines("encode", lines=[words for words, _ in DIGIT_FRAMES])
+        self.assertEqual(got, [frame for _, frame in DIGIT_FRAMES])
+        self.assertEqual(result.returncode, 0)
+
+    def test_digits_and_words(self):
+        """A configuration is the same frame as digits and as the words that it is decoded to."""
+        words, _ = output_lines("decode", lines=[frame for _, frame in DIGIT_FRAMES])
+        got, _ = output_lines("encode", lines=words)
+        self.assertEqual(got, [frame for _, frame in DIGIT_FRAMES])
 
     def test_frames_to_words(self):
         got, _ = output_lines("decode", lines=[frame for _, frame in FRAMES])

@@ -1,17 +1,19 @@
-"""Shows which faults in the archive's machine code the differential test finds.
+"""Shows which faults in the archive's machine code a test of calls finds.
 
-usage: test_machine_faults.py PROGRAM ARCHIVE --out DIR [--seed 1] [--calls 200000] [--jobs 2]
-                              [--only ADDRESS_OR_SUBSTRING] [--sample N] [--most PERCENT]
+usage: test_machine_faults.py PROGRAM ARCHIVE --out DIR [--functions PATTERN] [--seed 1]
+                              [--calls 200000] [--jobs 2] [--only ADDRESS_OR_SUBSTRING]
+                              [--sample N] [--most PERCENT]
 
-PROGRAM is `differential` linked with ARCHIVE. Each fault is put into a copy of
-it, in one instruction of the archive's functions:
+PROGRAM is `differential` linked with ARCHIVE, or `votes_trial`. Each fault is
+put into a copy of it, in one instruction of the archive's functions, of those
+alone whose names have the PATTERN in them if there is one:
 
 - a condition inverted;
 - a condition that holds at equality where it did not, or the other way round;
 - an immediate operand plus one, and minus one too where it is compared with;
 - a displacement plus one.
 
-The directed lists run first, and the random ones if those find nothing. A run
+The directed form runs first, and the random one if that finds nothing. A run
 catches a fault if it ends with status 1 and says FAILED. It has hung if it
 takes far more processor time than PROGRAM itself, which runs before all and
 has to pass, and it has died if a signal ends it: the fault is caught then too.
@@ -186,8 +188,8 @@ def operand_faults(instruction):
         yield from number_faults(DISPLACEMENT, instruction, *numbers_at(code), match[1], (1,))
 
 
-def faults_of(program, archive):
-    return [fault for function in functions_of(program, archive)
+def faults_of(program, archive, pattern):
+    return [fault for function in functions_of(program, archive) if re.search(pattern, function.name)
             for instruction in instructions_of(program, function)
             for fault in (*condition_faults(instruction), *operand_faults(instruction))]
 
@@ -251,7 +253,7 @@ def run(options, program, form, seconds):
         return SURVIVED
     if done.returncode < 0:
         return HUNG if done.returncode == -signal.SIGXCPU else DIED
-    raise Wrong(f"{program}, {form} lists: status {done.returncode}\n{done.stdout}{done.stderr}")
+    raise Wrong(f"{program}, form {form}: status {done.returncode}\n{done.stdout}{done.stderr}")
 
 
 def run_forms(options, program, seconds):
@@ -315,6 +317,7 @@ def read_options():
     parser.add_argument("program", type=path)
     parser.add_argument("archive", type=path)
     parser.add_argument("--out", type=path, required=True)
+    parser.add_argument("--functions", default="")
     parser.add_argument("--seed", type=int, default=1)
     parser.add_argument("--calls", type=int, default=200000)
     parser.add_argument("--jobs", type=int, default=2)
@@ -327,7 +330,7 @@ def read_options():
 def main():
     options = read_options()
     options.out.mkdir(parents=True, exist_ok=True)
-    faults = chosen(options, faults_of(options.program, options.archive))
+    faults = chosen(options, faults_of(options.program, options.archive, options.functions))
     start = time.monotonic()
     counts = collections.Counter()
     for fault, end in zip(faults, ends_of(options, faults)):

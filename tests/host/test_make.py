@@ -22,7 +22,7 @@ NEEDED = ["Makefile", "README.md", "crates.txt", "ospreyscreen.pc.in", ".ci", "b
 HOST = ["-f", "tests/host/host.mk"]
 CC = shlex.split(os.environ.get("CC", "gcc"))
 
-HERE = ["lib", "run", "example", "stack", "install", "uninstall", "test", "clean", "help"]
+HERE = ["lib", "run", "example", "votes", "stack", "install", "uninstall", "test", "clean", "help"]
 FORWARDED = ["test-host", "test-faults", "test-machine", "soak", "season", "bench"]
 
 RT = """#!/bin/sh
@@ -151,6 +151,27 @@ class Run(MakeTest):
         text = self.make("run", "SCRIPT=no script", status=2)
         self.assertIn("no script", text)
         self.assertNotIn(REPLY, text)
+
+
+class Votes(MakeTest):
+    """make votes with a compiler whose programs print their words."""
+
+    def votes(self, *given, status=0, **environment):
+        program = '#!/bin/sh\nprintf "<%s>" "$@"\n[ "$1" != refused ] || exit 1\n'
+        write_script(self.fakes / "program", program)
+        compiler = '#!/bin/sh\nwhile [ "$1" != -o ]; do shift; done\ncp "$FAKES/program" "$2"\n'
+        write_script(self.fakes / "mycc", compiler)
+        return self.make("votes", "CC=mycc", *given, status=status, **environment)
+
+    def test_sheet(self):
+        self.assertIn("<2 1 1 1 1><3><4>", self.votes())
+        self.assertIn("<1 it's><a b><>", self.votes("VOTES=1 it's", "READ=a b", "WRITE="))
+
+    def test_sheet_of_the_environment_is_not_ours(self):
+        self.assertIn("<2 1 1 1 1><3><4>", self.votes(VOTES="9", READ="9", WRITE="9"))
+
+    def test_refused(self):
+        self.votes("VOTES=refused", status=2)
 
 
 class Rt(MakeTest):

@@ -1,47 +1,14 @@
-#define _XOPEN_SOURCE 700 /* sigaction, sigaltstack, sigsetjmp */
-
 #include "trial.h"
 
+#include "watch.h"
+
 #include <inttypes.h>
-#include <setjmp.h>
-#include <signal.h>
 #include <stdlib.h>
 #include <string.h>
-#include <sys/time.h>
 #include <time.h>
-
-/* Where a call that faults or does not end comes back to. */
-static sigjmp_buf way_out;
-
-static void on_signal(int number)
-{
-    siglongjmp(way_out, number);
-}
-
-/* The handler has a stack of its own: a call may have used up the other. */
-static void catch_signals(void)
-{
-    static const int numbers[] = {SIGSEGV, SIGBUS, SIGILL, SIGFPE, SIGVTALRM};
-    static uint8_t room[1 << 16];
-    stack_t stack = {.ss_sp = room, .ss_size = sizeof room};
-    struct sigaction action = {.sa_handler = on_signal, .sa_flags = SA_NODEFER | SA_ONSTACK};
-
-    sigaltstack(&stack, NULL);
-    for (size_t i = 0; i < sizeof numbers / sizeof numbers[0]; i++) {
-        sigaction(numbers[i], &action, NULL);
-    }
-}
-
-/* Gives the program so much time of its own; none switches the clock off. */
-static void set_clock(unsigned seconds)
-{
-    struct itimerval time = {.it_value.tv_sec = (time_t)seconds};
-    setitimer(ITIMER_VIRTUAL, &time, NULL);
-}
 
 trial trial_make(const implementation *tested, const implementation *reference)
 {
-    catch_signals();
     return (trial){.tested = run_make(tested), .reference = run_make(reference)};
 }
 
@@ -146,31 +113,40 @@ static void begin(trial *t, const list *l)
     t->why = NULL;
 }
 
-static void run_steps(trial *t, const list *l, tally *counts)
+/* A list under way. */
+typedef struct {
+    trial *t;
+    const list *l;
+    tally *counts;
+} walk;
+
+static void run_steps(void *with)
 {
+    const walk *w = with;
+    trial *t = w->t;
+    const list *l = w->l;
+
     for (t->index = 0; t->index < l->count && t->why == NULL; t->index++) {
         const step *s = &l->steps[t->index];
         if (s->kind != STEP_CALL) {
-            change_tables(t, s, counts);
+            change_tables(t, s, w->counts);
             continue;
         }
-        t->why = make_call(t, s, counts);
+        t->why = make_call(t, s, w->counts);
     }
 }
 
 bool trial_passes(trial *t, const list *l, tally *counts, unsigned seconds)
 {
+    walk w = {t, l, counts};
+
     begin(t, l);
-    int number = sigsetjmp(way_out, 0);
-    if (number == 0) {
-        set_clock(seconds);
-        run_steps(t, l, counts);
-    } else {
+    const char *stopped = watch(run_steps, &w, seconds);
+    if (stopped != NULL) {
         t->got = (ospreyscreen_reply){0};
-        t->why = number == SIGVTALRM ? "a call did not end" : "a call faulted";
+        t->why = stopped;
         t->index++;
     }
-    set_clock(0);
     if (counts != NULL) {
         counts->lists++;
     }

@@ -1,0 +1,46 @@
+/*
+ * Times of the library beside the optimised C, in one run and batch by batch in
+ * turn, and the rows of the Markdown table that they are printed as.
+ */
+#ifndef TIMES_H
+#define TIMES_H
+
+enum { SAMPLES_MOST = 10001 };
+
+/* The two that are timed. */
+enum { LIBRARY_SIDE, OPTIMISED_SIDE, SIDES };
+
+typedef struct {
+    double minimum;
+    double median;
+} timing;
+
+/* Runs one side so many times on the scene; gives the mean time of a run. */
+typedef double batch_function(unsigned side, void *scene, unsigned runs);
+
+/* The highest ratio so far and where it was. */
+typedef struct {
+    double ratio;
+    char where[100];
+} peak;
+
+typedef struct {
+    peak minimum;
+    peak median;
+    unsigned rows;
+    unsigned high; /* rows with a ratio of minima above the goal */
+} summary;
+
+_Noreturn void give_up(const char *what, const char *name);
+
+double now_ns(void);
+
+/* Times both sides in turn, so many batches each. */
+void measure(batch_function *batch, void *scene, unsigned samples, timing out[SIDES]);
+
+void print_heading(unsigned samples);
+void print_row(const char *table, const char *kind, const char *call, const timing t[SIDES],
+               summary *sum);
+void print_summary(const summary *sum);
+
+#endif

@@ -1,0 +1,93 @@
+#include "votes_rows.h"
+
+#include "optimised.h"
+#include "rng.h"
+
+#include <string.h>
+
+enum { STATIONS = OSPREYSCREEN_STATIONS_MAX, ORDERS = 64 };
+
+typedef ospreyscreen_reply votes_function(const uint8_t *, size_t, uint64_t, uint64_t, uint8_t *,
+                                          size_t);
+
+static votes_function *const VOTES[SIDES] = {
+    [LIBRARY_SIDE] = ospreyscreen_votes,
+    [OPTIMISED_SIDE] = opt_votes,
+};
+
+typedef struct {
+    const char *name; /* the sets on each side */
+    uint8_t votes[STATIONS];
+    uint64_t read;
+    uint64_t write;
+    uint64_t number;
+} votes_row;
+
+static const votes_row ROWS[] = {
+    {"one set", {5, 7, 2, 9, 1, 3, 8, 4, 6, 2, 7, 5, 3, 9, 1, 6}, 78, 78, OSPREYSCREEN_DONE},
+    {"eight sets", {3, 2, 9, 5, 9, 8, 8, 2, 4, 6, 7, 7, 9, 1, 7, 2}, 85, 85, OSPREYSCREEN_DONE},
+    {"more than eight sets", {5, 7, 2, 9, 1, 3, 8, 4, 6, 2, 7, 5, 3, 9, 1, 6}, 40, 40,
+     OSPREYSCREEN_TOO_MANY_SETS},
+    {"three sets, three heavy stations", {40, 1, 1, 1, 1, 40, 1, 1, 1, 1, 40, 1, 1, 1, 1, 1}, 80,
+     54, OSPREYSCREEN_DONE},
+};
+
+/* A row, with its votes given out to the stations in several ways: with one
+ * alone the processor would foresee every branch. */
+typedef struct {
+    const votes_row *row;
+    uint8_t orders[ORDERS][STATIONS];
+} scene;
+
+static void shuffle(rng *r, uint8_t votes[STATIONS])
+{
+    for (unsigned i = STATIONS - 1; i > 0; i--) {
+        unsigned other = (unsigned)rng_below(r, i + 1);
+        uint8_t kept = votes[i];
+        votes[i] = votes[other];
+        votes[other] = kept;
+    }
+}
+
+static void set_scene(scene *s, const votes_row *row)
+{
+    rng r = {1};
+
+    s->row = row;
+    for (unsigned i = 0; i < ORDERS; i++) {
+        memcpy(s->orders[i], row->votes, STATIONS);
+        shuffle(&r, s->orders[i]);
+    }
+}
+
+static double batch(unsigned side, void *at, unsigned runs)
+{
+    const scene *s = at;
+    const votes_row *row = s->row;
+    uint8_t out[OSPREYSCREEN_CONFIGURATION_LENGTH];
+    uint64_t wrong = 0;
+
+    double start = now_ns();
+    for (unsigned i = 0; i < runs; i++) {
+        const uint8_t *votes = s->orders[i % ORDERS];
+        wrong |= row->number ^
+                 VOTES[side](votes, STATIONS, row->read, row->write, out, sizeof out).number;
+    }
+    double time = now_ns() - start;
+    if (wrong != 0) {
+        give_up("gives another number", row->name);
+    }
+    return time / runs;
+}
+
+void print_votes_rows(unsigned samples, summary *sum)
+{
+    static scene s;
+    timing t[SIDES];
+
+    for (unsigned i = 0; i < sizeof ROWS / sizeof ROWS[0]; i++) {
+        set_scene(&s, &ROWS[i]);
+        measure(batch, &s, samples, t);
+        print_row("16 stations", ROWS[i].name, "votes", t, sum);
+    }
+}

@@ -1,0 +1,30 @@
+/* Sheets of votes for the test of ospreyscreen_votes. */
+#ifndef VOTES_CASES_H
+#define VOTES_CASES_H
+
+#include "ospreyscreen.h"
+#include "rng.h"
+
+/* More than 2^16 votes, so that their number is cut by 16 bits too. */
+enum { VOTES_ROOM = (1 << 16) + 300, OUT_ROOM = 300 };
+
+/* What one call is given. A length of 0 goes with a null pointer or not. */
+typedef struct {
+    const uint8_t *votes;
+    size_t votes_len;
+    uint64_t read;
+    uint64_t write;
+    size_t out_len;
+    bool null;
+} sheet;
+
+/* Does something with a sheet; gives whether there are to be more. */
+typedef bool sheet_user(void *with, const sheet *s);
+
+/* All small sheets, and what random ones meet seldom. */
+bool votes_directed(sheet_user *use, void *with);
+
+/* A sheet of any shape; its votes stay until the next one. */
+sheet votes_random(rng *r);
+
+#endif

@@ -1,0 +1,162 @@
+#include "votes_opinion.h"
+
+/* Up to so many stations every set is asked for, above it seldom. */
+enum { EVERY_SET = 6, SELDOM = 16, SAMPLES = 32 };
+
+enum { START = 500, VALUE = 510 };
+
+/* The used sets of a side. */
+typedef struct {
+    unsigned count;
+    unsigned sets[PLACES];
+} side_sets;
+
+static side_sets side_of(const uint8_t *config, unsigned first)
+{
+    side_sets side = {.count = 0};
+    while (side.count < PLACES && configuration_set(config, first + side.count) != 0) {
+        side.sets[side.count] = configuration_set(config, first + side.count);
+        side.count++;
+    }
+    return side;
+}
+
+static unsigned any_of(const side_sets *side, rng *r)
+{
+    return side->sets[rng_below(r, side->count)];
+}
+
+/* ---- Sets and their votes ---- */
+
+static bool holds(const side_sets *side, unsigned set)
+{
+    for (unsigned i = 0; i < side->count; i++) {
+        if ((side->sets[i] & ~set) == 0) {
+            return true;
+        }
+    }
+    return false;
+}
+
+/* "A station set must hold a listed set exactly when its votes reach that
+ * threshold". */
+static bool agree(const sheet *s, const side_sets *reads, const side_sets *writes, unsigned set)
+{
+    uint64_t votes = votes_of_set(s, set);
+    return holds(reads, set) == (votes >= s->read) && holds(writes, set) == (votes >= s->write);
+}
+
+static bool all_agree(const sheet *s, const side_sets *reads, const side_sets *writes)
+{
+    for (unsigned set = 0; set <= all_stations((unsigned)s->votes_len); set++) {
+        if (!agree(s, reads, writes, set)) {
+            return false;
+        }
+    }
+    return true;
+}
+
+/* Each listed set, the same without one station, and some of any kind. */
+static bool some_agree(const sheet *s, const side_sets *reads, const side_sets *writes, rng *r)
+{
+    unsigned all = all_stations((unsigned)s->votes_len);
+    for (unsigned i = 0; i < SAMPLES; i++) {
+        unsigned listed = any_of(rng_one_in(r, 2) ? reads : writes, r);
+        unsigned less = listed & ~(1u << station_of(r, listed));
+        if (!agree(s, reads, writes, listed) || !agree(s, reads, writes, less) ||
+            !agree(s, reads, writes, less | part_of(r, all)) ||
+            !agree(s, reads, writes, part_of(r, all))) {
+            return false;
+        }
+    }
+    return true;
+}
+
+/* ---- A house with the configuration ---- */
+
+typedef struct {
+    const implementation *with;
+    size_t len;
+    uint8_t table[OSPREYSCREEN_TABLE_LENGTH(OSPREYSCREEN_STATIONS_MAX, 1)];
+} house;
+
+/* Polls the set's stations; the last one makes the round heard, and none
+ * before it. */
+static bool polls(house *h, unsigned set)
+{
+    for (; set != 0; set &= set - 1) {
+        unsigned station = (unsigned)__builtin_ctz(set);
+        ospreyscreen_reply reply = h->with->poll(h->table, h->len, station);
+        bool last = (set & (set - 1)) == 0;
+        if (reply.number != OSPREYSCREEN_DONE || reply.first != last) {
+            return false;
+        }
+    }
+    return true;
+}
+
+/* Puts at the set's stations; before the last one the commit is short. */
+static bool puts_at(house *h, unsigned set)
+{
+    for (; set != 0; set &= set - 1) {
+        unsigned station = (unsigned)__builtin_ctz(set);
+        uint64_t early = h->with->commit(h->table, h->len).number;
+        uint64_t put = h->with->put(h->table, h->len, station, OSPREYSCREEN_PUT_DATA).number;
+        if (early != OSPREYSCREEN_SHORT || put != OSPREYSCREEN_DONE) {
+            return false;
+        }
+    }
+    return true;
+}
+
+static bool commits(house *h)
+{
+    ospreyscreen_reply reply = h->with->commit(h->table, h->len);
+    return reply.number == OSPREYSCREEN_DONE && reply.first == VALUE && reply.second == 1 &&
+           reply.third == 0;
+}
+
+/* Lays a table, writes by one read set and one write set, and reads by another
+ * read set; gives what is wrong. */
+static const char *house_wrong(const implementation *with, const sheet *s, const uint8_t *config,
+                               unsigned polled, unsigned put, unsigned polled_later)
+{
+    house h = {.with = with, .len = OSPREYSCREEN_TABLE_LENGTH(s->votes_len, 1)};
+    uint64_t laid = with->lay(h.table, h.len, s->votes_len, 1, START, config,
+                              OSPREYSCREEN_CONFIGURATION_LENGTH).number;
+
+    if (laid != OSPREYSCREEN_DONE) {
+        return "lay refuses the configuration";
+    }
+    if (with->open_write(h.table, h.len, 0, VALUE).number != OSPREYSCREEN_DONE ||
+        !polls(&h, polled) || !puts_at(&h, put) || !commits(&h)) {
+        return "a write with the configuration goes wrong";
+    }
+    if (with->open_read(h.table, h.len, 0).number != OSPREYSCREEN_DONE ||
+        !polls(&h, polled_later) || !commits(&h)) {
+        return "a read with the configuration goes wrong";
+    }
+    return NULL;
+}
+
+const char *votes_wrong(const implementation *with, const sheet *s, const uint8_t *config, rng *r,
+                        votes_tally *counts)
+{
+    side_sets reads = side_of(config, READ_SIDE);
+    side_sets writes = side_of(config, WRITE_SIDE);
+    bool every = s->votes_len <= EVERY_SET || rng_one_in(r, SELDOM);
+
+    if (reads.count == 0 || writes.count == 0) {
+        return "a side of the configuration is empty";
+    }
+    if (!(every ? all_agree(s, &reads, &writes) : some_agree(s, &reads, &writes, r))) {
+        return "a set of stations does not hold a listed set exactly if its votes reach";
+    }
+    const char *wrong = house_wrong(with, s, config, any_of(&reads, r), any_of(&writes, r),
+                                    any_of(&reads, r));
+    if (counts != NULL) {
+        counts->met[VOTES_ROUND] += wrong == NULL;
+        counts->met[VOTES_EVERY_SET] += every && s->votes_len == OSPREYSCREEN_STATIONS_MAX;
+    }
+    return wrong;
+}

@@ -1,0 +1,16 @@
+/*
+ * What the configuration of a sheet has to do, asked without the reference:
+ * sets of stations are held to their votes, and a house is run with it.
+ */
+#ifndef VOTES_OPINION_H
+#define VOTES_OPINION_H
+
+#include "calls.h"
+#include "votes_tally.h"
+
+/* Gives what is wrong with a configuration that the sheet was turned into, or
+ * a null pointer; counts what it looked at if there is a tally. */
+const char *votes_wrong(const implementation *with, const sheet *s, const uint8_t *config, rng *r,
+                        votes_tally *counts);
+
+#endif
