@@ -55,8 +55,10 @@ class StackTool(unittest.TestCase):
             with self.subTest(line=line), self.assertRaises(STACK.NoFigure):
                 STACK.functions_of(["0000 <f>:", "   0:\t" + line])
         both = ["0000 <f>:", "   0:\tcall   0 <g>", "0000 <g>:", "   0:\tcall   0 <f>"]
-        with self.assertRaises(STACK.NoFigure):
-            STACK.deepest(STACK.functions_of(both), "f")
+        itself = ["0000 <f>:", "   0:\tcall   0 <f>"]
+        for lines in (both, itself):
+            with self.subTest(lines=lines), self.assertRaises(STACK.NoFigure):
+                STACK.deepest(STACK.functions_of(lines), "f")
 
     def test_never_below_the_compiler(self):
         """What the compiler says has the return address, and no red zone."""

@@ -1,7 +1,7 @@
 -- The number and the output where the call returns.
-use mathlib.Core.Path.{_≡_, refl, sym, ap, _∙_}
+use mathlib.Core.Path.{_≡_, refl, sym, _∙_}
 use mathlib.Core.Bool.{Bool, true, false, not, cond, _&&_, _||_}
-use mathlib.Core.List.{List, _++_}
+use mathlib.Core.List.{List}
 use Prim.Native.Nat.{ℕ, _+_, _≤_, _<_}
 use native.Mathlib.Omega.{arith}
 use lib.Dec.{ltb, leb, eqb}
@@ -9,7 +9,7 @@ use lib.ListN.{length}
 use borrow.Author.Tests.{eqb-false, ltb-true, leb-true, le-leb, lt-ltb, le-ltb, eq-eqb, ne-eqb, not-true}
 use Rattle.basics.specs.Bytes.{over}
 use Rattle.basics.specs.Tests.{all}
-use Rattle.basics.proofs.Tests.{clash, fails, and-left, and-right, and-both, or-left, or-right}
+use Rattle.basics.proofs.Tests.{clash, fails, and-left, and-right, or-left, or-right}
 use Rattle.quorum.specs.Configurations.{configSize}
 use Rattle.rules.specs.Rules.{first}
 use Rattle.votes.specs.Votes.{total, trueVotes, smallestSets, tooMany, votesRefusals, votesNumber, places, sideBytes, configurationOf, votesOutput}

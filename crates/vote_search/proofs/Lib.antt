@@ -1,5 +1,6 @@
 mod Inserting
 mod Growing
+mod Searching
 mod Output
 mod Answers
 mod Occurrences
