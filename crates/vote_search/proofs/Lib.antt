@@ -4,6 +4,7 @@ mod Searching
 mod Output
 mod Answers
 mod Occurrences
+mod Ranks
 mod Picking
 mod Weighing
 mod Finding

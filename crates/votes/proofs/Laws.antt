@@ -34,21 +34,22 @@ sum-grows f g zero h = omega arith
 sum-grows f g (suc n) h = omega (arith, sum-grows f g n (λ i l. h i (omega arith)), h n (omega arith))
 
 -- two sums that share the addends of a third
-sum-shared : (f g h : ℕ → ℕ) (n : ℕ) → ((i : ℕ) → i < n → f i + g i ≤ h i) → sumBelow f n + sumBelow g n ≤ sumBelow h n
+pub sum-shared : (f g h : ℕ → ℕ) (n : ℕ) → ((i : ℕ) → i < n → f i + g i ≤ h i) → sumBelow f n + sumBelow g n ≤ sumBelow h n
 unfolding sumBelow
 sum-shared f g h zero e = omega arith
 sum-shared f g h (suc n) e = omega (arith, sum-shared f g h n (λ i l. e i (omega arith)), e n (omega arith))
 
 -- two sums that differ in one addend
-sum-but-one : (f g : ℕ → ℕ) (n k x : ℕ) → k < n → ((i : ℕ) → (i ≡ k → ⊥) → f i ≡ g i) → f k + x ≡ g k → sumBelow f n + x ≡ sumBelow g n
+pub sum-but-one : (f g : ℕ → ℕ) (n k x : ℕ) → k < n → ((i : ℕ) → i < n → (i ≡ k → ⊥) → f i ≡ g i) → f k + x ≡ g k
+    → sumBelow f n + x ≡ sumBelow g n
 unfolding sumBelow
 sum-but-one f g zero k x l same at-k = absurd (not-suc-le-zero l)
 sum-but-one f g (suc n) k x l same at-k =
     either (eqb k n)
-    (λ e. omega (arith, sum-same f g n (λ i m. same i (λ q. omega (arith, eqb-true k n e))), rw (eqb-true k n e) at at-k))
+    (λ e. omega (arith, sum-same f g n (λ i m. same i (omega arith) (λ q. omega (arith, eqb-true k n e))), rw (eqb-true k n e) at at-k))
     (λ e.
     let other : k ≡ n → ⊥ = eqb-false k n e in
-    omega (arith, sum-but-one f g n k x (omega arith) same at-k, same n (λ q. other (sym q))))
+    omega (arith, sum-but-one f g n k x (omega arith) (λ i m. same i (omega arith)) at-k, same n (omega arith) (λ q. other (sym q))))
 
 -- ---- the votes of a set
 -- a set with more stations has no fewer votes
@@ -77,7 +78,7 @@ pub left-out : (votes : List ℕ) (set i : ℕ) → member set i ≡ true → i 
     → votesOf votes (remove set i) + getD votes i 0 ≡ votesOf votes set
 unfolding votesOf
 left-out votes set i m l =
-    sum-but-one _ _ (length votes) i (getD votes i 0) l (λ j other. rw (promise .member-remove set j i, ne-eqb j i other, and-true (member set j)))
+    sum-but-one _ _ (length votes) i (getD votes i 0) l (λ j _ other. rw (promise .member-remove set j i, ne-eqb j i other, and-true (member set j)))
     (rw (promise .member-remove set i i, m, eq-eqb i i refl) (omega arith))
 
 -- one that is not on the sheet has none
