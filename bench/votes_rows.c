@@ -5,14 +5,18 @@
 
 #include <string.h>
 
-enum { STATIONS = OSPREYSCREEN_STATIONS_MAX, ORDERS = 64 };
+enum { STATIONS = OSPREYSCREEN_STATIONS_MAX, ORDERS = 4096 };
 
 typedef ospreyscreen_reply votes_function(const uint8_t *, size_t, uint64_t, uint64_t, uint8_t *,
                                           size_t);
 
-static votes_function *const VOTES[SIDES] = {
-    [LIBRARY_SIDE] = ospreyscreen_votes,
-    [OPTIMISED_SIDE] = opt_votes,
+/* What the library is compared with, and the name of such a row. */
+static const struct {
+    votes_function *votes;
+    const char *name;
+} RIVALS[] = {
+    {opt_votes, "votes"},
+    {opt_votes_searched, "votes, C that searches"},
 };
 
 typedef struct {
@@ -32,10 +36,12 @@ static const votes_row ROWS[] = {
      54, OSPREYSCREEN_DONE},
 };
 
-/* A row, with its votes given out to the stations in several ways: with one
- * alone the processor would foresee every branch. */
+/* A row, with its votes given out to the stations in many ways, each side in
+ * turn: with few of them the processor learns every branch. */
 typedef struct {
     const votes_row *row;
+    votes_function *sides[SIDES];
+    unsigned next[SIDES];
     uint8_t orders[ORDERS][STATIONS];
 } scene;
 
@@ -62,18 +68,19 @@ static void set_scene(scene *s, const votes_row *row)
 
 static double batch(unsigned side, void *at, unsigned runs)
 {
-    const scene *s = at;
+    scene *s = at;
     const votes_row *row = s->row;
     uint8_t out[OSPREYSCREEN_CONFIGURATION_LENGTH];
     uint64_t wrong = 0;
 
     double start = now_ns();
     for (unsigned i = 0; i < runs; i++) {
-        const uint8_t *votes = s->orders[i % ORDERS];
+        const uint8_t *votes = s->orders[(s->next[side] + i) % ORDERS];
         wrong |= row->number ^
-                 VOTES[side](votes, STATIONS, row->read, row->write, out, sizeof out).number;
+                 s->sides[side](votes, STATIONS, row->read, row->write, out, sizeof out).number;
     }
     double time = now_ns() - start;
+    s->next[side] += runs;
     if (wrong != 0) {
         give_up("gives another number", row->name);
     }
@@ -82,12 +89,15 @@ static double batch(unsigned side, void *at, unsigned runs)
 
 void print_votes_rows(unsigned samples, summary *sum)
 {
-    static scene s;
+    static scene s = {.sides = {[LIBRARY_SIDE] = ospreyscreen_votes}};
     timing t[SIDES];
 
-    for (unsigned i = 0; i < sizeof ROWS / sizeof ROWS[0]; i++) {
-        set_scene(&s, &ROWS[i]);
-        measure(batch, &s, samples, t);
-        print_row("16 stations", ROWS[i].name, "votes", t, sum);
+    for (unsigned rival = 0; rival < sizeof RIVALS / sizeof RIVALS[0]; rival++) {
+        s.sides[OPTIMISED_SIDE] = RIVALS[rival].votes;
+        for (unsigned i = 0; i < sizeof ROWS / sizeof ROWS[0]; i++) {
+            set_scene(&s, &ROWS[i]);
+            measure(batch, &s, samples, t);
+            print_row("16 stations", ROWS[i].name, RIVALS[rival].name, t, sum);
+        }
     }
 }

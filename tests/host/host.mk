@@ -89,12 +89,12 @@ EXAMPLES := examples/first_reading examples/season examples/votes
 
 LISTS := calls.o configurations.o damage.o draw.o generate.o guard.o lists.o outlook.o recorder.o reference.o runs.o
 DIFFERENTIAL := differential.o book.o directed.o optimised.o options.o season.o tally.o trial.o watch.o $(LISTS)
-VOTES_TRIAL := votes_trial.o calls.o configurations.o guard.o optimised.o optimised_votes.o options.o ref_votes.o \
-    votes_cases.o votes_opinion.o votes_tally.o watch.o
+VOTES_TRIAL := votes_trial.o calls.o configurations.o guard.o optimised.o optimised_votes.o searched_votes.o \
+    options.o ref_votes.o votes_cases.o votes_opinion.o votes_tally.o watch.o
 OBJECTS_differential := $(DIFFERENTIAL) $(LIBRARY)
 OBJECTS_votes_trial := $(VOTES_TRIAL) $(LIBRARY)
-OBJECTS_bench := bench.o calls.o configurations.o optimised.o optimised_votes.o options.o times.o votes_rows.o \
-    $(LIBRARY)
+OBJECTS_bench := bench.o calls.o configurations.o optimised.o optimised_votes.o searched_votes.o options.o times.o \
+    votes_rows.o $(LIBRARY)
 OBJECTS_clean_frames := clean_frames.o calls.o configurations.o options.o
 OBJECTS_format_dump := format_dump.o $(LIBRARY)
 OBJECTS_runner := runner.o calls.o optimised.o
@@ -189,6 +189,7 @@ test-votes: build
 	$(BIN)/checked/votes_trial --form random --calls $(CHECKED_CALLS) --seed $(SEED)
 	$(if $(LIB),$(BIN)/checked/votes_trial --form directed --seed $(SEED) --of optimised)
 	$(if $(LIB),$(BIN)/checked/votes_trial --form random --calls $(CHECKED_CALLS) --seed $(SEED) --of optimised)
+	$(if $(LIB),$(BIN)/checked/votes_trial --form random --calls $(CHECKED_CALLS) --seed $(SEED) --of searched)
 
 # Each fault in a copy of a reference, which stands in for the library; the other calls of votes are the optimised C's.
 TEST_FAULTS = python3 tests/host/test_faults.py --cc $(call quote,$(CC)) \

@@ -5,7 +5,7 @@
  *   votes_trial --form random   [--calls N] [--seed S]
  *   votes_trial --form directed [--seed S]
  *   votes_trial --votes "1 1 1" [--stations N] [--read R] [--write W] [--out LENGTH] [--null]
- *   votes_trial ... --of library|optimised
+ *   votes_trial ... --of library|optimised|searched
  *
  * The third runs one sheet, several times, lent in other ways and with other
  * bytes in the output; stations whose votes are not given have none. The exit
@@ -23,7 +23,8 @@
 #include <string.h>
 
 static const char USAGE[] =
-    "votes_trial [--form random|directed] [--calls N] [--seed S] [--of library|optimised]\n"
+    "votes_trial [--form random|directed] [--calls N] [--seed S]\n"
+    "                   [--of library|optimised|searched]\n"
     "                   [--votes \"V V ..\" [--stations N] [--read R] [--write W] [--out N]\n"
     "                   [--null]]";
 
@@ -43,13 +44,10 @@ typedef struct {
     implementation calls;
 } tested_library;
 
-static const tested_library LIBRARY = {
-    .votes = ospreyscreen_votes,
-    .calls = IMPLEMENTATION("library", ospreyscreen_),
-};
-static const tested_library OPTIMISED = {
-    .votes = opt_votes,
-    .calls = IMPLEMENTATION("optimised", opt_),
+static const tested_library LIBRARIES[] = {
+    {.votes = ospreyscreen_votes, .calls = IMPLEMENTATION("library", ospreyscreen_)},
+    {.votes = opt_votes, .calls = IMPLEMENTATION("optimised", opt_)},
+    {.votes = opt_votes_searched, .calls = IMPLEMENTATION("searched", opt_)},
 };
 
 /* One of the two that are compared, and what it is lent. */
@@ -262,7 +260,7 @@ typedef struct {
 
 static options read_options(int argc, char **argv)
 {
-    options o = {.form = "random", .of = LIBRARY.calls.name, .calls = 200000, .seed = 1,
+    options o = {.form = "random", .of = LIBRARIES[0].calls.name, .calls = 200000, .seed = 1,
                  .out_len = OSPREYSCREEN_CONFIGURATION_LENGTH};
     const option all[] = {
         {.name = "--form", .text = &o.form},
@@ -287,12 +285,12 @@ static _Noreturn void usage(void)
 }
 
 /* One of two names; true if it is the second. */
-static bool is_second(const char *name, const char *first, const char *second)
+static bool is_directed(const char *form)
 {
-    if (strcmp(name, first) != 0 && strcmp(name, second) != 0) {
+    if (strcmp(form, "random") != 0 && strcmp(form, "directed") != 0) {
         usage();
     }
-    return strcmp(name, second) == 0;
+    return strcmp(form, "directed") == 0;
 }
 
 /* Reads the votes in the text; gives how many there are. */
@@ -331,15 +329,26 @@ static int run_one(trial *t, const options *o)
     return EXIT_SUCCESS;
 }
 
+static const tested_library *library_named(const char *name)
+{
+    size_t count = sizeof LIBRARIES / sizeof LIBRARIES[0];
+    for (size_t i = 0; i < count; i++) {
+        if (strcmp(name, LIBRARIES[i].calls.name) == 0) {
+            return &LIBRARIES[i];
+        }
+    }
+    usage();
+}
+
 int main(int argc, char **argv)
 {
     static trial t;
     options o = read_options(argc, argv);
-    bool directed = is_second(o.form, "random", "directed");
+    bool directed = is_directed(o.form);
 
     setvbuf(stdout, NULL, _IOLBF, 0);
     t.program = argv[0];
-    t.of = is_second(o.of, LIBRARY.calls.name, OPTIMISED.calls.name) ? &OPTIMISED : &LIBRARY;
+    t.of = library_named(o.of);
     t.tested = party_make(t.of->calls.name, t.of->votes);
     t.reference = party_make("reference", ref_votes);
     t.source.state = o.seed;
