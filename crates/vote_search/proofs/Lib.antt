@@ -1,10 +1,7 @@
-mod Inserting
 mod Growing
 mod Searching
 mod Output
 mod Answers
-mod Occurrences
-mod Ranks
 mod Picking
 mod Weighing
 mod Finding

@@ -1,0 +1,3 @@
+mod Inserting
+pub mod Occurrences
+mod Ranks
