@@ -4,7 +4,7 @@ usage: test_archive.py [ARCHIVE HEADER]
 
 - It calls memmove and nothing else outside itself.
 - Its global symbols are the functions that HEADER declares, and no others.
-- Its other symbols are local functions.
+- Its other symbols are local functions and local constants.
 - No section that a program could write to has a byte in it.
 
 Without ARCHIVE only planted archives are looked at: a good one, and others that
@@ -48,7 +48,7 @@ def wrong_symbols(archive, functions):
     wrong |= {f"does not call {name}" for name in CALLED - called}
     wrong |= {f"exports {name}" for name in exported - functions}
     wrong |= {f"does not export {name}" for name in functions - exported}
-    return wrong | {f"has {name} of kind {kind}" for kind, name in symbols if kind not in "UTt"}
+    return wrong | {f"has {name} of kind {kind}" for kind, name in symbols if kind not in "UTtr"}
 
 
 def wrong_sections(archive):
@@ -105,7 +105,7 @@ BAD = {
     "a common variable": (TWO + "__attribute__((common)) int shared;", "has shared of kind C"),
     "a thread's variable": ("int ospreyscreen_two(int n) { static __thread int sum; return sum += n; }",
                             "has data in .tbss"),
-    "a constant": (TWO + "extern const int three; const int three = 3;", "has three of kind R"),
+    "a global constant": (TWO + "extern const int three; const int three = 3;", "has three of kind R"),
 }
 
 
@@ -129,6 +129,10 @@ class Planted(unittest.TestCase):
 
     def test_good(self):
         self.assertEqual(wrong(archive_of(self.folder, ONE + TWO), PLANTED_HEADER), set())
+
+    def test_local_constant(self):
+        text = ONE + "int ospreyscreen_two(int n) { static const int odd[] = {1, 3, 7}; return odd[n]; }"
+        self.assertEqual(wrong(archive_of(self.folder, text), PLANTED_HEADER), set())
 
     def test_bad(self):
         for name, (text, found) in BAD.items():

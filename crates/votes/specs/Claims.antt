@@ -73,7 +73,7 @@ pub record Configured (votes : List ℕ) (read write : ℕ) (config : List ℕ) 
 
 pub record Claims : Type 0 where
   -- ---- votes
-  -- nobody has none; a station brings its own votes, and one that is not on the sheet none; all stations have the total
+  -- the empty set has none; a station brings its own votes, and one that is not on the sheet brings none; all stations have the total
   pub no-votes : (votes : List ℕ) → votesOf votes 0 ≡ 0
   pub its-votes : (votes : List ℕ) (set i : ℕ) → member set i ≡ true → votesOf votes set ≡ votesOf votes (remove set i) + getD votes i 0
   pub all-votes : (votes : List ℕ) → length votes ≤ 16 → votesOf votes (full (length votes)) ≡ total votes

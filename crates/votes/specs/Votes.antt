@@ -30,7 +30,7 @@ total votes = sumBelow (λ i. getD votes i 0) (length votes)
 unfoldable pub reaches : List ℕ → ℕ → ℕ → Bool
 reaches votes threshold set = leb threshold (votesOf votes set)
 
--- "A smallest set reaches it and no longer does with any one station left out.": of sets that name no station but those with votes
+-- "A smallest set reaches it and no longer does with any one station left out.": of sets of stations that are on the sheet
 unfoldable pub smallest : List ℕ → ℕ → ℕ → Bool
 smallest votes threshold set =
     reaches votes threshold set && allBelow (λ i. not (member set i) || not (reaches votes threshold (remove set i))) (length votes)
