@@ -6,7 +6,10 @@ static const implementation REFERENCE = IMPLEMENTATION("reference", ref_);
 
 recorder recorder_make(list *into)
 {
-    return (recorder){.into = into, .steering = run_make(&REFERENCE)};
+    recorder made = {.into = into, .steering = run_make(&REFERENCE)};
+    /* Calls may come before the first table. */
+    record_table(&made, 0, GUARD_AFTER, false);
+    return made;
 }
 
 void record_table(recorder *to, size_t len, guard_place place, bool null_table)
