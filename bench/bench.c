@@ -138,6 +138,15 @@ static uint64_t reach(const implementation *with, scene *s)
     return with->reach(s->table, s->len, 0).number;
 }
 
+static uint64_t links(const implementation *with, scene *s)
+{
+    uint64_t numbers = 0;
+    for (unsigned station = 0; station < s->n; station++) {
+        numbers |= with->link(s->table, s->len, station, OSPREYSCREEN_LINK_ON).number;
+    }
+    return numbers;
+}
+
 static uint64_t polls(const implementation *with, scene *s)
 {
     uint64_t numbers = 0;
@@ -310,6 +319,18 @@ static void differ(rng *r, scene *s)
     }
 }
 
+/* Reach's number is 0 with every station off the bus too, so its figure is
+ * looked at before a row is timed. */
+static void expect_reach(const scene *s)
+{
+    for (unsigned side = 0; side < SIDES; side++) {
+        if (WITH[side]->reach(s->table, s->len, 0).first != OSPREYSCREEN_REACH_READ_AND_WRITE) {
+            give_up("item 0 is out of reach", WITH[side]->name);
+        }
+    }
+}
+
+/* A table with every station on the bus. */
 static void set_scene(scene *s, const kind *k, unsigned n, unsigned m)
 {
     rng r = {n * 100 + m};
@@ -320,12 +341,13 @@ static void set_scene(scene *s, const kind *k, unsigned n, unsigned m)
     s->len = OSPREYSCREEN_TABLE_LENGTH(n, m);
     s->quorum = n / 2 + 1;
     majorities(&r, s, s->config);
-    if (lay(&OPTIMISED, s) != 0) {
-        give_up("refused", "lay");
+    if (lay(&OPTIMISED, s) != 0 || links(&OPTIMISED, s) != 0) {
+        give_up("refused", "lay or link");
     }
     if (k->differ != ALIKE) {
         differ(&r, s);
     }
+    expect_reach(s);
     memcpy(s->saved, s->table, s->len);
 }
 

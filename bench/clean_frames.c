@@ -3,8 +3,8 @@
  *
  *   clean_frames --stations n --items m [--lines N]
  *
- * One lay, then whole reads and writes only: all configurations stay alike, so
- * every part of the script costs the same.
+ * One lay and a link for each station, then whole reads and writes only: all
+ * configurations stay alike, so every part of the script costs the same.
  */
 #include "calls.h"
 #include "configurations.h"
@@ -45,6 +45,13 @@ static void write_lay(writer *w)
     write_call(w, call_lay(w->stations, w->items, value, config));
 }
 
+static void write_links(writer *w)
+{
+    for (uint64_t station = 0; station < w->stations; station++) {
+        write_call(w, call_link(station, OSPREYSCREEN_LINK_ON));
+    }
+}
+
 /* A read or a write through the lowest majority. */
 static void write_round(writer *w)
 {
@@ -75,6 +82,7 @@ int main(int argc, char **argv)
     options_read(argc, argv, "clean_frames [--stations n] [--items m] [--lines N]", all,
                  sizeof all / sizeof all[0]);
     write_lay(&w);
+    write_links(&w);
     while (w.left > 0) {
         write_round(&w);
     }

@@ -1,6 +1,7 @@
 /*
- * Lays a table of three stations and one item, writes 510 through stations 0
- * and 1, reads it back through stations 1 and 2, and prints the reading.
+ * Lays a table of three stations and one item, links the stations, writes 510
+ * through stations 0 and 1, reads it back through stations 1 and 2, and prints
+ * the reading.
  */
 #include "ospreyscreen.h"
 
@@ -30,6 +31,15 @@ static ospreyscreen_reply done(const char *call, ospreyscreen_reply reply)
     return reply;
 }
 
+/* After a lay every station is off the bus. Firmware links each one once it is
+ * wired and answers; here all three are. */
+static void link_stations(void)
+{
+    for (uint64_t station = 0; station < STATIONS; station++) {
+        done("link", ospreyscreen_link(table, sizeof table, station, OSPREYSCREEN_LINK_ON));
+    }
+}
+
 static void write_item(uint64_t value)
 {
     done("open write", ospreyscreen_open_write(table, sizeof table, ITEM, value));
@@ -51,6 +61,7 @@ static ospreyscreen_reply read_item(void)
 int main(void)
 {
     done("lay", ospreyscreen_lay(table, sizeof table, STATIONS, ITEMS, 500, pairs, sizeof pairs));
+    link_stations();
     write_item(510);
     ospreyscreen_reply reading = read_item();
     printf("value %" PRIu64 ", version %" PRIu64 ", generation %" PRIu64 "\n", reading.first,

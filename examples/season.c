@@ -1,12 +1,14 @@
 /*
- * A season of one house: five stations, four items. Stations drop and return
- * with old copies, also in the middle of a round. The configuration of every
- * item is changed twice while readings go on; the second change retires
- * station 4. Every finished round is compared with a plain record that this
- * program keeps for itself.
+ * A season of one house: five stations, four items. The laid table has nobody
+ * on the bus; the installers wire three stations on the first day and two
+ * later. Stations drop and return with old copies, also in the middle of a
+ * round. The configuration of every item is changed twice while readings go
+ * on; the second change retires station 4. Every finished round is compared
+ * with a plain record that this program keeps for itself.
  *
- * The parts to copy are advice_on, which has a branch for every number that a
- * call can give, and run_round, which brings a round to its end.
+ * The parts to copy are wire, which links the stations, advice_on, which has a
+ * branch for every number that a call can give, and run_round, which brings a
+ * round to its end.
  */
 #include "ospreyscreen.h"
 
@@ -125,7 +127,9 @@ static ospreyscreen_reply must(const char *call, ospreyscreen_reply reply)
 
 /* ---- The bus ---- */
 
-static uint64_t wired = STATIONS; /* stations below it are in use */
+/* The day on which the installers wire each station; they go from 0 up. */
+static const int wiring_day[STATIONS] = {1, 1, 1, 3, 5};
+static uint64_t wired; /* stations below it are in use */
 static uint32_t weather = 1;
 
 /* A number below the sides given, the same in every run. */
@@ -138,6 +142,24 @@ static uint32_t roll(uint32_t sides)
 static void link_station(uint64_t station, uint64_t state)
 {
     must("link", ospreyscreen_link(table, sizeof table, station, state));
+}
+
+static uint64_t reach_of(uint64_t item)
+{
+    return must("reach", ospreyscreen_reach(table, sizeof table, item)).first;
+}
+
+/* Links the stations that are wired on the day. Until its link a station is
+ * off the bus; one that is linked late has old copies, like one that returns. */
+static void wire(int day)
+{
+    for (uint64_t s = 0; s < STATIONS; s++) {
+        if (wiring_day[s] == day) {
+            link_station(s, OSPREYSCREEN_LINK_ON);
+            wired = s + 1;
+            printf("day %d, station %" PRIu64 " linked: reach %" PRIu64 "\n", day, s, reach_of(0));
+        }
+    }
 }
 
 /* Overnight some stations drop, and some of those that were off return. */
@@ -330,7 +352,8 @@ static bool run_and_check(const plan *p)
 
 /* ---- The season ---- */
 
-/* Lays the table: the one call that needs no sound table. */
+/* Lays the table: the one call that needs no sound table. Nobody is on the bus
+ * after it. */
 static void lay_house(void)
 {
     uint8_t first[OSPREYSCREEN_CONFIGURATION_LENGTH];
@@ -340,6 +363,7 @@ static void lay_house(void)
     for (size_t i = 0; i < ITEMS; i++) {
         record[i].value = START;
     }
+    printf("laid: reach %" PRIu64 "\n", reach_of(0));
 }
 
 /* The phase that the items are to be in on the day. */
@@ -394,6 +418,7 @@ static void leave_a_round_open(void)
 static void run_season(void)
 {
     for (int day = 1; day <= DAYS; day++) {
+        wire(day);
         night();
         if (day == INTERRUPTED_DAY) {
             leave_a_round_open();
@@ -426,11 +451,10 @@ static void print_summary(void)
         link_station(s, OSPREYSCREEN_LINK_ON);
     }
     for (uint64_t item = 0; item < ITEMS; item++) {
-        ospreyscreen_reply reach = must("reach", ospreyscreen_reach(table, sizeof table, item));
         printf("item %" PRIu64 ": value %" PRIu64 ", version %" PRIu64 ", generation %" PRIu64
                ", reach %" PRIu64 "\n",
                item, record[item].value, record[item].version, record[item].generation,
-               reach.first);
+               reach_of(item));
     }
 }
 

@@ -4,8 +4,9 @@
  *   votes "2 1 1 1 1" 3 4
  *
  * The votes of station 0, 1 and so on, then how many votes a read needs and a
- * write. Prints the sets, and the 32 bytes as 64 digits for a frame. The exit
- * status is 1 if the library refuses the sheet, and 2 if it cannot be read.
+ * write. Prints the sets, the 32 bytes as 64 digits for a frame, and the frames
+ * that lay a house with them and link its stations. The exit status is 1 if the
+ * library refuses the sheet, and 2 if it cannot be read.
  */
 #include "ospreyscreen.h"
 
@@ -217,9 +218,18 @@ static void print_configuration(const sheet *s, const configuration *c)
     print_side(s, "write", s->write, c->bytes + sizeof c->bytes / 2);
     printf("the configuration, 32 bytes\n");
     print_bytes(c);
+}
+
+/* The frames that set a house up: the lay, and a link for each station. */
+static void print_frames(const sheet *s, const configuration *c)
+{
     printf("the frame that lays such a house with one item at 0: call, n, m, value, these bytes\n");
     printf("01%02zX010000000000000000", s->count);
     print_bytes(c);
+    printf("the frames that link its stations, each once it is wired: call, station, 1 for on\n");
+    for (size_t station = 0; station < s->count; station++) {
+        printf("09%02zX01\n", station);
+    }
 }
 
 int main(int argc, char **argv)
@@ -242,5 +252,6 @@ int main(int argc, char **argv)
         return REFUSED;
     }
     print_configuration(&s, &c);
+    print_frames(&s, &c);
     return EXIT_SUCCESS;
 }

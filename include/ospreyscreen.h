@@ -1,6 +1,6 @@
 /*
  * Ospreyscreen: replicated items in one lent table of bytes, as document 01,
- * the specification, lays it down.
+ * the specification, and the requests of document 02 that are done have it.
  *
  * A station is a replica, an item a logical object, a round a logical access.
  * A table holds one copy of each of its m items at each of its n stations.
@@ -39,7 +39,7 @@ extern "C" {
 
 /* The version of this header and of the library that belongs to it. */
 #define OSPREYSCREEN_VERSION_MAJOR 0
-#define OSPREYSCREEN_VERSION_MINOR 2
+#define OSPREYSCREEN_VERSION_MINOR 3
 #define OSPREYSCREEN_VERSION_PATCH 0
 #define OSPREYSCREEN_VERSION_STRING                                                                \
     OSPREYSCREEN_DOTTED_(OSPREYSCREEN_VERSION_MAJOR, OSPREYSCREEN_VERSION_MINOR,                   \
@@ -73,7 +73,7 @@ enum ospreyscreen_number {
     OSPREYSCREEN_FALSE_CONFIGURATION = 3, /* the configuration is not valid */
     OSPREYSCREEN_BUSY = 4,                /* an opening while a round is open */
     OSPREYSCREEN_IDLE = 5,                /* no round is open */
-    OSPREYSCREEN_OFF_THE_BUS = 6,         /* the station is off */
+    OSPREYSCREEN_OFF_THE_BUS = 6,         /* the station is off, as all are after a lay */
     OSPREYSCREEN_READING_OVER = 7,        /* a poll while a put set is not empty */
     OSPREYSCREEN_UNHEARD = 8,             /* the polled stations hold no read set */
     OSPREYSCREEN_WRONG_PUT = 9,           /* a put in a read, or a configuration put in a write */
@@ -134,9 +134,12 @@ typedef struct {
 } ospreyscreen_reply;
 
 /*
- * Lays a table: n stations, 1 to 16, all on the bus; m items, 1 to 32, all at
- * the starting value with version 0, generation 0 and the configuration
+ * Lays a table: n stations, 1 to 16, all off the bus; m items, 1 to 32, all
+ * at the starting value with version 0, generation 0 and the configuration
  * given; no round. Looks at no old byte of the table and writes every byte.
+ * A station stays off until it is linked with state 1: until then a poll or a
+ * put of it in a round gets 6. Before the first link reach is 0 for every
+ * item. Link each station once it is wired and answers.
  * A configuration is 32 bytes: eight read sets, then eight write sets, two
  * bytes each, least significant byte first, bit i for station i. Unused
  * places are zero and come last on each side. It is valid if each side has a
@@ -220,8 +223,9 @@ ospreyscreen_reply ospreyscreen_commit(uint8_t *table, size_t len);
 ospreyscreen_reply ospreyscreen_abandon(uint8_t *table, size_t len);
 
 /*
- * Takes the station off the bus (state 0) or back on (state 1). Going off
- * takes it out of both put sets; it stays polled, and its copies are kept.
+ * Takes the station on the bus (state 1) or off it (state 0). After a lay each
+ * station needs one call with state 1. Going off takes the station out of both
+ * put sets; it stays polled, and its copies are kept.
  * Refusals: 1 table, 2 station or state.
  */
 ospreyscreen_reply ospreyscreen_link(uint8_t *table, size_t len, uint64_t station, uint64_t state);

@@ -1,6 +1,6 @@
 // The unstarred cases of document 01, "Trays through the house", and the boundaries of the ten calls. The cases stand in the file
-// `stdin`, and `stdout` holds what document 01 says of each; it was written from the paper, and EXPECTED.md gives the sentence for
-// every case.
+// `stdin`, and `stdout` holds what documents 01 and 02 say of each; it was written from the papers, and EXPECTED.md gives the
+// sentence for every case.
 //
 // A line of `stdin` has a text, which is printed, and behind a bar calls with commas between them: a word and its numbers. A line with
 // text and calls is a case: its name, and the reply to each of its calls, a number and three figures. A line without calls is a
@@ -21,7 +21,8 @@
 // And these have nine replies (`rows.rt`):
 //
 //     nine                       the nine calls but lay
-//     three ROUND AT VALUE       lays a table of n 3, m 5 with a round, and makes the nine calls with one byte changed
+//     three ROUND AT VALUE       lays a table of n 3, m 5 with all stations on and a round, and makes the nine calls with one byte
+//                                changed
 //     fifteen ROUND AT VALUE     the same of n 15, m 1
 //
 // Any other word gets the number 99, in a set-up too.

@@ -76,12 +76,21 @@ fn opening(kind: u64) -> u64 {
     }
 }
 
-// Lays a table of three stations and five items, or of fifteen stations and one item.
+// Links stations 0 to n - 1 to on.
+fn link_all(table: &mut [u8], n: u64) {
+    for station in 0..n {
+        call(table, &TARGET, LINK, station, 1, 0);
+    }
+}
+
+// Lays a table of three stations and five items, or of fifteen stations and one item, and links all of its stations to on.
 fn lay(table: &mut [u8], config: &[u8], three: bool) {
     if three {
         call(table, config, LAY, 3, 5, 500);
+        link_all(table, 3);
     } else {
         call(table, config, LAY, 15, 1, 500);
+        link_all(table, 15);
     }
 }
 

@@ -1,23 +1,14 @@
--- The starred cases of document 01, "Trays through the house", and the mistakes of "What growers' programs get wrong", as one table: on
--- bytes, from a lay on, call by call.
+-- The starred cases of document 01, "Trays through the house", the mistakes of "What growers' programs get wrong", and the stations of a new table
+-- (document 02, 2026-02), as one table: on bytes, from a lay on, call by call.
 use mathlib.Core.Path.{_≡_}
 use mathlib.Core.List.{List, [], _∷_, _++_}
 use mathlib.Core.Option.{Option, none, some}
 use Prim.Native.Nat.{ℕ}
 use lib.ListN.{replicate}
-use Rattle.rules.specs.Calls.{Call, lay, openRead, openWrite, openChange, poll, put, commit, abandon, link}
+use Rattle.rules.specs.Calls.{Call, lay, openRead, openWrite, openChange, poll, put, commit, abandon, link, reach}
 use Rattle.rules.specs.Calls.{dataSort, configSort, offState, onState}
 use Rattle.rules.specs.Lists.{replies}
 use Rattle.rules.specs.declared.Reply.{Reply}
-
--- calls after the lay, and what the last of them gets: its number and three figures
-pub record Row : Type 0 where
-  pub calls : List Call
-  pub gets : Reply
-
-abbrev pub row : List Call → ℕ → ℕ → ℕ → ℕ → Row
-row calls number first second third =
-    record { calls = calls; gets = record { number = number; first = first; second = second; third = third } }
 
 -- ---- configurations: three sets of stations below 8 on each side
 abbrev pub side : ℕ → ℕ → ℕ → List ℕ
@@ -51,7 +42,7 @@ dataPut s = put s dataSort
 abbrev pub configPut : ℕ → Call
 configPut s = put s configSort
 
--- a station that drops, and one that returns
+-- a station that drops, and one that is wired or returns
 abbrev pub drops : ℕ → Call
 drops s = link s offState
 
@@ -69,10 +60,41 @@ changes = round (openChange 0 single) (dataPut 2 ∷ configPut 0 ∷ configPut 1
 abbrev pub everywhere : List Call
 everywhere = round (openChange 0 single) (dataPut 2 ∷ configPut 0 ∷ configPut 1 ∷ configPut 2 ∷ commit ∷ [])
 
+-- ---- rows: calls after the lay, and what the last of them gets, its number and three figures
+pub record Row : Type 0 where
+  pub calls : List Call
+  pub gets : Reply
+
+-- on a table just laid
+abbrev pub fresh : List Call → ℕ → ℕ → ℕ → ℕ → Row
+fresh calls number first second third =
+    record { calls = calls; gets = record { number = number; first = first; second = second; third = third } }
+
+-- and on one whose stations were linked: "starred cases relied on the old default and gain a link call per station"
+abbrev pub row : List Call → ℕ → ℕ → ℕ → ℕ → Row
+row calls = fresh (returns 0 ∷ returns 1 ∷ returns 2 ∷ calls)
+
 unfoldable pub table : List Row
 table =
     -- the lay itself is done, and has no figures
-    row [] 0 0 0 0
+    fresh [] 0 0 0 0
+    -- ---- "New stations start off the bus"
+    -- nothing is reached, and in a round every station gets 6, at a poll and at a put
+    ∷ fresh (reach 0 ∷ []) 0 0 0 0
+    ∷ fresh (openRead 0 ∷ poll 0 ∷ []) 6 0 0 0
+    ∷ fresh (openWrite 0 510 ∷ poll 1 ∷ []) 6 0 0 0
+    ∷ fresh (openChange 0 single ∷ poll 2 ∷ []) 6 0 0 0
+    ∷ fresh (openWrite 0 510 ∷ dataPut 2 ∷ []) 6 0 0 0
+    -- until that station's link, and no other's; a round that was open before goes on with it
+    ∷ fresh (openRead 0 ∷ returns 0 ∷ poll 0 ∷ []) 0 0 0 0
+    ∷ fresh (openRead 0 ∷ returns 0 ∷ poll 0 ∷ poll 1 ∷ []) 6 0 0 0
+    ∷ fresh (openRead 0 ∷ returns 0 ∷ poll 0 ∷ poll 1 ∷ returns 1 ∷ poll 1 ∷ commit ∷ []) 0 500 0 0
+    ∷ fresh (returns 0 ∷ reach 0 ∷ []) 0 0 0 0
+    ∷ fresh (returns 0 ∷ returns 2 ∷ reach 0 ∷ []) 0 3 0 0
+    -- a further lay takes every station off again; one that is refused takes none
+    ∷ row (lay 3 1 500 pairs ∷ reach 0 ∷ []) 0 0 0 0
+    ∷ row (lay 3 1 500 pairs ∷ openRead 0 ∷ poll 2 ∷ []) 6 0 0 0
+    ∷ row (lay 3 1 500 apart ∷ reach 0 ∷ []) 0 3 0 0
     -- ---- "Trays through the house"
     -- "Polled {0}: unheard. Polled {0, 1}: heard."
     ∷ row (openRead 0 ∷ poll 0 ∷ []) 0 0 0 0

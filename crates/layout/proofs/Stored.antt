@@ -1,5 +1,5 @@
 -- The copies after a commit and after a lay: what each writes, and the state that the bytes then hold.
-use mathlib.Core.Path.{_≡_, refl, ap, _∙_}
+use mathlib.Core.Path.{_≡_, refl, sym, ap, _∙_}
 use mathlib.Core.Bool.{Bool, true, false, cond, _&&_}
 use mathlib.Core.List.{List, _∷_}
 use Prim.Native.Nat.{ℕ, zero, suc, _+_, _-_, _*_, _^_, _≤_, _<_}
@@ -9,20 +9,22 @@ use lib.Dec.{ltb, eqb}
 use lib.ListN.{length, replicate, length-append}
 use borrow.Author.Tests.{ltb-true, ltb-false, eqb-true, eqb-false}
 use Rattle.basics.specs.Bytes.{littleEndian, AreBytes}
-use Rattle.quorum.specs.Sets.{member}
+use Rattle.quorum.specs.Sets.{member, within, full}
+use Rattle.quorum.proofs.Promise.{promise}
 use Rattle.basics.proofs.Tests.{below-suc}
 use Rattle.layout.specs.Layout.{headSize, copiesAt, stationsAt, itemsAt, offAt, kindAt, spareAt, valueAt, targetAt}
 use Rattle.quorum.specs.Configurations.{configSize}
 use Rattle.layout.specs.Layout.{copySize, copyVersionAt, copyValueAt, copyGenerationAt, address, tableLength}
 use Rattle.layout.specs.Fields.{Copy, none, Round, stations, roundOf, copyFrom}
 use Rattle.layout.specs.View.{State}
-use Rattle.layout.specs.Updates.{noTarget, putData, copyBytes, repeated, laid, putCopy, putCopies}
+use Rattle.layout.specs.Updates.{noTarget, putData, copyBytes, repeated, alike, laid, putCopy, putCopies}
 use Rattle.basics.proofs.Parts.{number-lt, bytes-append, bytes-zeros, bytes-part}
 use Rattle.layout.proofs.Fields.{outside, outside-before, outside-after, Only, only-none, only-trans, only-wider, number-kept, copy-kept, round-kept}
 use Rattle.layout.proofs.Fields.{address-head, address-suc, address-fits, address-order, address-later}
 use Rattle.layout.proofs.Fields.{data-only, data-copy, config-only, config-copy, data-bytes, config-bytes}
 use Rattle.layout.proofs.Fields.{opened, table-head, target-length, copy-left, copy-right, copy-length, copy-bytes, copy-read}
-use Rattle.layout.proofs.Held.{Holds, withCopies}
+use Rattle.layout.proofs.Fields.{off-only}
+use Rattle.layout.proofs.Held.{Holds, withOff, withCopies, holds-off}
 
 -- a copy with what is stored at it: version and value by a data put, generation and configuration by a configuration put
 abbrev pub stored : Bool → Bool → Copy → Copy → Copy
@@ -220,6 +222,10 @@ module _ (t : List ℕ) (v : State) (new : Copy) (isTarget : new .config ≡ v .
       }
 
 -- ---- lay
+-- the set of all n stations names no other
+pub all-within : (n : ℕ) → n ≤ 16 → within n (full n) ≡ true
+all-within n l = promise .member-within n (full n) (λ i p. ltb-true i n (sym (promise .member-full n i l) ∙ p))
+
 pub repeated-length : (k : ℕ) (l : List ℕ) → length l ≡ copySize → length (repeated k l) ≡ copySize * k
 unfolding repeated
 repeated-length zero l e = refl
@@ -238,12 +244,17 @@ unfolding repeated
 repeated-bytes zero l h = tt
 repeated-bytes (suc k) l h = bytes-append l (repeated k l) h (repeated-bytes k l h)
 
-pub laid-length : (n m value : ℕ) (config : List ℕ) → length config ≡ configSize → length (laid n m value config) ≡ tableLength n m
+alike-length : (n m value : ℕ) (config : List ℕ) → length config ≡ configSize → length (alike n m value config) ≡ tableLength n m
 unfolding tableLength
-laid-length n m value config e =
+alike-length n m value config e =
     rw (length-append, repeated-length (n * m) (copyBytes 0 value 0 config) (copy-length 0 value 0 config e))
 
--- the state after a lay: "every item alike, all stations on, no round"
+pub laid-length : (n m value : ℕ) (config : List ℕ) → length config ≡ configSize → length (laid n m value config) ≡ tableLength n m
+laid-length n m value config e =
+    let size = alike-length n m value config e in
+    off-only (alike n m value config) (rw size (table-head n m)) _ .size ∙ size
+
+-- the state after a lay: "every item alike, .. no round", and "all n stations in the off set"
 abbrev pub started : State → ℕ → ℕ → ℕ → List ℕ → State
 started v n m value config =
     record {
@@ -251,15 +262,16 @@ started v n m value config =
       fits = v .fits;
       n = n;
       m = m;
-      off = 0;
+      off = full n;
       round = opened none 0 0 noTarget;
       copies = λ i s. record { version = 0; value = value; generation = 0; config = config };
     }
 
-pub holds-laid : (v : State) (n m value : ℕ) (config : List ℕ) → n < 256 → m < 256 → value < 2 ^ 64 → length config ≡ configSize → AreBytes config
-    → Holds (laid n m value config) (started v n m value config)
+-- before its stations go off
+holds-alike : (v : State) (n m value : ℕ) (config : List ℕ) → n < 256 → m < 256 → value < 2 ^ 64 → length config ≡ configSize → AreBytes config
+    → Holds (alike n m value config) (withOff (started v n m value config) 0)
 unfolding address littleEndian
-holds-laid v n m value config ln lm lv e b =
+holds-alike v n m value config ln lm lv e b =
     let x = copyBytes 0 value 0 config in
     let zeros : List ℕ = replicate (headSize - offAt) 0 in
     record {
@@ -267,7 +279,7 @@ holds-laid v n m value config ln lm lv e b =
         ln,
         (lm, bytes-append zeros (repeated (n * m) x) (bytes-zeros (headSize - offAt)) (repeated-bytes (n * m) x (copy-bytes 0 value 0 config b))),
       );
-      size = laid-length n m value config e;
+      size = alike-length n m value config e;
       kind = omega arith;
       spare = refl;
       n = add-zero n;
@@ -278,3 +290,9 @@ holds-laid v n m value config ln lm lv e b =
           ∙ repeated-copy (n * m) (i * n + s) x (copy-length 0 value 0 config e) (omega (arith, mul-le-mul-right n p))
           ∙ copy-read 0 value 0 config (omega arith) lv (omega arith) e);
     }
+
+pub holds-laid : (v : State) (n m value : ℕ) (config : List ℕ) → n ≤ 16 → m < 256 → value < 2 ^ 64 → length config ≡ configSize → AreBytes config
+    → Holds (laid n m value config) (started v n m value config)
+holds-laid v n m value config few lm lv e b =
+    holds-off (alike n m value config) _ (holds-alike v n m value config (omega arith) lm lv e b) (full n)
+    (promise .within-16 n (full n) few (all-within n few))

@@ -4,7 +4,7 @@ use mathlib.Core.List.{List, [], _∷_, _++_}
 use Prim.Native.Nat.{ℕ, zero, suc, _+_, _-_, _*_}
 use lib.ListN.{replicate}
 use Rattle.basics.specs.Bytes.{bytesOf, over}
-use Rattle.quorum.specs.Sets.{member}
+use Rattle.quorum.specs.Sets.{member, full}
 use Rattle.quorum.specs.Configurations.{configSize}
 use Rattle.layout.specs.Layout.{headSize, offAt, kindAt, polledAt, dataPutsAt, spareAt, valueAt, copyVersionAt, copyGenerationAt, address}
 use Rattle.layout.specs.Fields.{Copy, none, kindByte, Round}
@@ -45,9 +45,13 @@ unfoldable pub repeated : ℕ → List ℕ → List ℕ
 repeated zero bytes = []
 repeated (suc k) bytes = bytes ++ repeated k bytes
 
--- "Lay (n, m, starting value, configuration): every item alike, all stations on, no round." "Versions and generations start at 0."
+-- "Lay (n, m, starting value, configuration): every item alike, .. no round." "Versions and generations start at 0."
+abbrev pub alike : ℕ → ℕ → ℕ → List ℕ → List ℕ
+alike n m value config = (n ∷ m ∷ replicate (headSize - offAt) 0) ++ repeated (n * m) (copyBytes 0 value 0 config)
+
+-- document 02, 2026-02: "From now on lay puts all n stations in the off set."
 abbrev pub laid : ℕ → ℕ → ℕ → List ℕ → List ℕ
-laid n m value config = (n ∷ m ∷ replicate (headSize - offAt) 0) ++ repeated (n * m) (copyBytes 0 value 0 config)
+laid n m value config = setOff (alike n m value config) (full n)
 
 -- ---- what commit writes
 -- "Then every put takes effect": what the round stores goes to one copy, its version and value by a data put, its generation and

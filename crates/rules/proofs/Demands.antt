@@ -9,16 +9,17 @@ use Rattle.layout.specs.View.{Table, view}
 use Rattle.rules.specs.Calls.{reach}
 use Rattle.rules.specs.Rules.{numberOf}
 use Rattle.rules.specs.After.{done}
-use Rattle.rules.specs.Reply.{reply, after}
+use Rattle.rules.specs.Reply.{after}
 use Rattle.rules.specs.Demand1.{Demand1}
 use Rattle.rules.specs.Steps.{Steps}
-use Rattle.rules.proofs.Demand1.{refusal-changes-nothing, refusal-has-no-figures, other-calls-have-no-figures, number-is-listed, reply-figures}
+use Rattle.rules.proofs.Demand1.{refusal-changes-nothing, refusal-has-no-figures, other-calls-have-no-figures, number-is-listed}
 use Rattle.rules.proofs.Room.{figures-fit}
-use Rattle.rules.proofs.Laws.{done-law, next-view, length-kept, bytes-kept}
+use Rattle.rules.proofs.Laws.{done-step, length-kept, bytes-kept}
 pub use Rattle.rules.proofs.Judged.{numbered}
 pub use Rattle.rules.proofs.Demand2.{demand2}
 pub use Rattle.rules.proofs.Demand3.{demand3}
 pub use Rattle.rules.proofs.Kept.{sound-kept}
+pub use Rattle.rules.proofs.OffAtFirst.{off-at-first}
 pub use Rattle.rules.proofs.Twice.{twice, lay-alone}
 pub use Rattle.rules.proofs.Alike.{alike-tables}
 
@@ -41,6 +42,6 @@ reach-nothing t i = by-cases (λ (b : Bool). cond b t t ≡ t) (eqb (numberOf (v
 pub steps : Steps
 steps =
     record {
-      step = λ t c b p e. done-law t c e .does (view (after t c)) (reply t c) (next-view t c e b p) (reply-figures t c e);
+      step = λ t c b p e. done-step t c e b p;
       reach-changes-nothing = reach-nothing;
     }

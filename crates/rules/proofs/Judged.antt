@@ -52,7 +52,7 @@ one-of a x y = (
   λ s. ap not (⊎-elim (λ h. or-left (eqb a x) (eqb a y) (eq-eqb a x h)) (λ h. or-right (eqb a x) (eqb a y) (eq-eqb a y h)) s),
 )
 
-at-station : (n s a x y : ℕ) → ((not (ltb s n) || not (eqb a x || eqb a y)) ≡ false) ↔ ((s < n) × ((a ≡ x) ⊎ (a ≡ y)))
+pub at-station : (n s a x y : ℕ) → ((not (ltb s n) || not (eqb a x || eqb a y)) ≡ false) ↔ ((s < n) × ((a ≡ x) ⊎ (a ≡ y)))
 at-station n s a x y = (
   λ e. (below s n .0 (or-false-left _ _ e), one-of a x y .0 (or-false-right (not (ltb s n)) _ e)),
   λ h. rw (below s n .1 (h .0)) (one-of a x y .1 (h .1)),

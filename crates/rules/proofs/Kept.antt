@@ -65,7 +65,7 @@ unsound-one t c l =
       λ e. unsound-number v c l e,
     )
 
-stays-sound : (t : Table) (c : Call) → AreBytes t → Passable c → sound t ≡ true → sound (after t c) ≡ true
+pub stays-sound : (t : Table) (c : Call) → AreBytes t → Passable c → sound t ≡ true → sound (after t c) ≡ true
 stays-sound t c b p h = go (reply t c .number) refl
   where
     go : (k : ℕ) → reply t c .number ≡ k → sound (after t c) ≡ true

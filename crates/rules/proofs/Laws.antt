@@ -38,7 +38,7 @@ use Rattle.rules.proofs.Judged.{allowed}
 use Rattle.rules.proofs.States.{next, renewed, polled-sound, put-sound, closed-sound, committed-sound, link-sound, laid-sound}
 use Rattle.rules.proofs.Views.{closing-fits, opens, opens-plain, two-bytes}
 use Rattle.rules.proofs.Book.{Follows, keep-laid, keep-commit}
-use Rattle.rules.proofs.Demand1.{Shows}
+use Rattle.rules.proofs.Demand1.{Shows, reply-figures}
 use Rattle.rules.proofs.Steps.{opened-step, polled-step, put-step, link-step, commit-step, reach-step, laid-step}
 
 pub record Law (t : Table) (c : Call) : Type 0 where
@@ -116,8 +116,8 @@ module _ (t : Table) where
       let size = a .0 in
       record {
         isSound = laid-sound v n m value config size ok;
-        held = λ b p. holds-laid v n m value config (omega arith) (omega arith) (p .0) long (p .1);
-        does = λ w r l q. laid-step v w n m value config l;
+        held = λ b p. holds-laid v n m value config (size .1) (omega arith) (p .0) long (p .1);
+        does = λ w r l q. laid-step v w n m value config (size .1) l;
         follows = λ b _. keep-laid v b n m value config ok (size .3);
         size = laid-length n m value config long ∙ sym (eqb-true (length t) (tableLength n m) (a .1 .0));
       }
@@ -227,6 +227,10 @@ module _ (t : Table) (c : Call) (e : reply t c .number ≡ 0) where
   pub next-view : AreBytes t → Passable c → SameContents (view (after t c)) (next (view t) c)
   unfolding view
   next-view b p = let h = holds-next b p in record { n = h .n; m = h .m; off = h .off; round = h .round; copies = h .copies }
+
+  -- it does what Steps.antt says
+  pub done-step : AreBytes t → Passable c → Step c (view t) (view (after t c)) (reply t c)
+  done-step b p = done-law .does (view (after t c)) (reply t c) (next-view b p) (reply-figures t c e)
 
 -- ---- any call: the table is what the call makes of it if it is done, or as it was
 pub by-number : (P : Table → Type 0) (t : Table) (c : Call) → (reply t c .number ≡ 0 → P (done t (view t) c)) → P t → P (after t c)

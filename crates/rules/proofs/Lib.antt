@@ -11,6 +11,7 @@ pub mod Laws
 pub mod Demand2
 pub mod Demand3
 pub mod Kept
+pub mod OffAtFirst
 pub mod Alike
 pub mod Twice
 pub mod Room

@@ -6,7 +6,7 @@ use Prim.Native.Nat.{ℕ, _≤_, _<_}
 use native.Mathlib.Omega.{arith}
 use lib.Dec.{eqb}
 use borrow.Author.Tests.{eqb-true, eqb-false, not-true}
-use Rattle.quorum.specs.Sets.{member, shares, within, join, remove}
+use Rattle.quorum.specs.Sets.{member, shares, within, join, remove, full}
 use Rattle.quorum.specs.Configurations.{valid, configSize}
 use Rattle.basics.proofs.Tests.{clash, by-cases, and-left, and-right, or-cases, fails}
 use Rattle.quorum.proofs.Promise.{promise}
@@ -23,7 +23,7 @@ use Rattle.rules.specs.Figures.{closing}
 use Rattle.rules.specs.After.{stores}
 use Rattle.rules.specs.After.{linked as linkedOff}
 use Rattle.rules.specs.Needs.{RightPut}
-use Rattle.layout.proofs.Stored.{committed, started}
+use Rattle.layout.proofs.Stored.{committed, all-within, started}
 
 abbrev pub next : State → Call → State
 next v (lay n m value config) = started v n m value config
@@ -209,14 +209,14 @@ committed-sound v f =
 pub laid-sound : (v : State) (n m value : ℕ) (config : List ℕ) → (1 ≤ n) × (n ≤ 16) × (1 ≤ m) × (m ≤ 32) → valid n config ≡ true
     → StateSound (started v n m value config)
 laid-sound v n m value config a h =
-    let e = empty-set n 0 in
+    let e = empty-set n (full n) in
     record {
       positive = a .0;
       small = a .1;
       someItem = a .2;
       fewItems = a .3;
       item = a .2;
-      off = e .inRange;
+      off = all-within n (a .1);
       polled = e .inRange;
       dataPuts = e .inRange;
       configPuts = e .inRange;

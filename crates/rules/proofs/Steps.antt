@@ -3,7 +3,7 @@ use mathlib.Core.Path.{_≡_, refl, sym, ap, _∙_}
 use mathlib.Core.Bool.{Bool, true, false, cond}
 use mathlib.Core.List.{List}
 use mathlib.Core.Logic.{_↔_}
-use Prim.Native.Nat.{ℕ, _<_}
+use Prim.Native.Nat.{ℕ, _≤_, _<_}
 use native.Mathlib.Omega.{arith}
 use lib.Dec.{ltb}
 use borrow.Author.Tests.{lt-ltb, eq-eqb, ne-eqb}
@@ -214,12 +214,12 @@ module _ (v : State) (i : ℕ) (f : StateSound v) where
       }
 
 -- ---- lay
-pub laid-step : (v w : State) (n m value : ℕ) (config : List ℕ) → SameContents w (next v (lay n m value config)) → Laid w n m value config
-laid-step v w n m value config l =
+pub laid-step : (v w : State) (n m value : ℕ) (config : List ℕ) → n ≤ 16 → SameContents w (next v (lay n m value config)) → Laid w n m value config
+laid-step v w n m value config few l =
     record {
       stations = l .n;
       items = l .m;
-      off = λ s. rw (l .off) (promise .member-empty s);
+      off = λ s. rw (l .off) (promise .member-full n s few);
       round = fresh (w .round) none 0 0 noTarget (l .round);
       copies = λ i s g h. let e = l .copies i s g h in
           (ap (λ x. x .version) e, ap (λ x. x .value) e, ap (λ x. x .generation) e, ap (λ x. x .config) e);

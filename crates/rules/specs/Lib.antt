@@ -10,6 +10,7 @@ pub mod Demand1
 pub mod Demand2
 pub mod Needs
 pub mod Steps
+pub mod OffAtFirst
 pub mod Twice
 pub mod LayAlone
 pub mod Alike

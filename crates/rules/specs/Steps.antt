@@ -55,11 +55,12 @@ pub record Fresh (r : Round) (k : Kind) (i x : ℕ) (l : List ℕ) : Type 0 wher
 abbrev pub NoRound : Round → Type 0
 NoRound r = Fresh r none 0 0 noTarget
 
--- ---- lay: "every item alike, all stations on, no round." "Versions and generations start at 0."
+-- ---- lay: "every item alike, .. no round." "Versions and generations start at 0." And document 02, 2026-02: "From now on lay puts all n stations in the
+-- off set." What that means for polls and reach is in OffAtFirst.antt.
 pub record Laid (w : State) (n m value : ℕ) (config : List ℕ) : Type 0 where
   pub stations : w .n ≡ n
   pub items : w .m ≡ m
-  pub off : (s : ℕ) → member (w .off) s ≡ false
+  pub off : (s : ℕ) → member (w .off) s ≡ ltb s n
   pub round : NoRound (w .round)
   pub copies : (i s : ℕ) → i < m → s < n
       → (w .copies i s .version ≡ 0) × (w .copies i s .value ≡ value) × (w .copies i s .generation ≡ 0) × (w .copies i s .config ≡ config)

@@ -18,7 +18,7 @@ use Rattle.quorum.specs.Configurations.{configSize}
 use Rattle.layout.specs.Layout.{headSize, copiesAt, copySize, address, tableLength}
 use Rattle.layout.specs.Fields.{Copy, Round}
 use Rattle.table.specs.Search.{InTable}
-use Rattle.layout.specs.Updates.{putData, putConfig, copyBytes, repeated, laid, putCopies}
+use Rattle.layout.specs.Updates.{putData, putConfig, copyBytes, repeated, alike, putCopies}
 use Rattle.basics.proofs.Parts.{part-left, part-length, length-over, part-inside, part-whole, length-bytes, over-again, over-append, over-own}
 use Rattle.basics.proofs.Writing.{over-all}
 use Rattle.layout.proofs.Fields.{address-head, copy-length}
@@ -117,10 +117,10 @@ all-copies t zero copy some size fits = absurd (not-suc-le-zero some)
 all-copies t (suc k) copy some size fits =
     over-first t copiesAt copy (repeated k copy) (rw (length-append, repeated-length k copy size, size) (omega arith))
 
--- the head, the first copy and all copies, one after the other, are the whole table
+-- the head, the first copy and all copies, one after the other, are the whole table before its stations go off
 pub lay-all : (t : List ℕ) (n m value : ℕ) (config : List ℕ) → 1 ≤ n * m → length t ≡ tableLength n m → length config ≡ configSize
     → {h u : List ℕ} → h ≡ over t 0 (n ∷ m ∷ replicate 54 0) → u ≡ over h copiesAt (copyBytes 0 value 0 config)
-    → over u copiesAt (repeated (n * m) (part u copiesAt copySize)) ≡ laid n m value config
+    → over u copiesAt (repeated (n * m) (part u copiesAt copySize)) ≡ alike n m value config
 unfolding tableLength
 lay-all t n m value config some size long {h} {u} first second =
     let head = n ∷ m ∷ replicate 54 0 in

@@ -8,7 +8,7 @@ ghost use Rattle.quorum.specs.Configurations.{configSize};
 ghost use Rattle.layout.specs.Layout.{copiesAt, copySize, tableLength};
 ghost use Rattle.layout.specs.Fields.{newCopy};
 ghost use Rattle.table.specs.Search.{InTable};
-ghost use Rattle.layout.specs.Updates.{putData, putConfig, copyBytes, repeated, laid, putCopies, closed};
+ghost use Rattle.layout.specs.Updates.{putData, putConfig, copyBytes, repeated, alike, laid, putCopies, closed};
 ghost use Rattle.rounds.specs.Round.{asRound, roundIn};
 use layout::COPIES_AT;
 use layout::COPY_SIZE;
@@ -24,6 +24,7 @@ use table::copy::Version;
 use table::copy::address;
 use table::copy::put_config;
 use table::copy::put_data;
+use table::head::set_off;
 use table::head::set_round;
 use table::number::config_bytes_at;
 use table::number::put_pair;
@@ -152,12 +153,21 @@ fn lay_rest(t: &mut [u8], copies: usize)
     }
 }
 
-// Writes every byte of a table: its head with no round, and its copies, all alike.
-pub fn lay_bytes(t: &mut [u8], n: u64, m: u64, value: u64, config: &[u8])
+// Writes every byte of a table: its head with no round and no station off the bus, and its copies, all alike.
+fn lay_alike(t: &mut [u8], n: u64, m: u64, value: u64, config: &[u8])
     requires { ⌜ (1 ≤ n) × (n ≤ 16) × (1 ≤ m) × (m ≤ 32) × (length (now t) ≡ tableLength n m) × (length (now config) ≡ configSize) ⌝ }
-    ensures { λ _. ⌜ now (t .exit) ≡ laid n m value (now (config .entry)) ⌝ }
+    ensures { λ _. ⌜ now (t .exit) ≡ alike n m value (now (config .entry)) ⌝ }
 {
     put_pair(t, STATIONS_AT, n as u8, m as u8, HEAD_SIZE - OFF_AT);
     lay_first(t, value, config);
     lay_rest(t, n as usize * m as usize)
+}
+
+// The same, and every station goes off the bus.
+pub fn lay_bytes(t: &mut [u8], n: u64, m: u64, value: u64, config: &[u8])
+    requires { ⌜ (1 ≤ n) × (n ≤ 16) × (1 ≤ m) × (m ≤ 32) × (length (now t) ≡ tableLength n m) × (length (now config) ≡ configSize) ⌝ }
+    ensures { λ _. ⌜ now (t .exit) ≡ laid n m value (now (config .entry)) ⌝ }
+{
+    lay_alike(t, n, m, value, config);
+    set_off(t, sets::all_stations(n as usize))
 }
