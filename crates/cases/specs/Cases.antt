@@ -66,31 +66,32 @@ pub record Row : Type 0 where
   pub gets : Reply
 
 -- on a table just laid
-abbrev pub fresh : List Call → ℕ → ℕ → ℕ → ℕ → Row
-fresh calls number first second third =
+abbrev pub unwired : List Call → ℕ → ℕ → ℕ → ℕ → Row
+unwired calls number first second third =
     record { calls = calls; gets = record { number = number; first = first; second = second; third = third } }
 
 -- and on one whose stations were linked: "starred cases relied on the old default and gain a link call per station"
 abbrev pub row : List Call → ℕ → ℕ → ℕ → ℕ → Row
-row calls = fresh (returns 0 ∷ returns 1 ∷ returns 2 ∷ calls)
+row calls = unwired (returns 0 ∷ returns 1 ∷ returns 2 ∷ calls)
 
 unfoldable pub table : List Row
 table =
     -- the lay itself is done, and has no figures
-    fresh [] 0 0 0 0
+    unwired [] 0 0 0 0
     -- ---- "New stations start off the bus"
-    -- nothing is reached, and in a round every station gets 6, at a poll and at a put
-    ∷ fresh (reach 0 ∷ []) 0 0 0 0
-    ∷ fresh (openRead 0 ∷ poll 0 ∷ []) 6 0 0 0
-    ∷ fresh (openWrite 0 510 ∷ poll 1 ∷ []) 6 0 0 0
-    ∷ fresh (openChange 0 single ∷ poll 2 ∷ []) 6 0 0 0
-    ∷ fresh (openWrite 0 510 ∷ dataPut 2 ∷ []) 6 0 0 0
+    -- nothing is reached, and in a round a poll of each station gets 6, and so does a put
+    ∷ unwired (reach 0 ∷ []) 0 0 0 0
+    ∷ unwired (openRead 0 ∷ poll 0 ∷ []) 6 0 0 0
+    ∷ unwired (openWrite 0 510 ∷ poll 1 ∷ []) 6 0 0 0
+    ∷ unwired (openChange 0 single ∷ poll 2 ∷ []) 6 0 0 0
+    ∷ unwired (openWrite 0 510 ∷ dataPut 2 ∷ []) 6 0 0 0
     -- until that station's link, and no other's; a round that was open before goes on with it
-    ∷ fresh (openRead 0 ∷ returns 0 ∷ poll 0 ∷ []) 0 0 0 0
-    ∷ fresh (openRead 0 ∷ returns 0 ∷ poll 0 ∷ poll 1 ∷ []) 6 0 0 0
-    ∷ fresh (openRead 0 ∷ returns 0 ∷ poll 0 ∷ poll 1 ∷ returns 1 ∷ poll 1 ∷ commit ∷ []) 0 500 0 0
-    ∷ fresh (returns 0 ∷ reach 0 ∷ []) 0 0 0 0
-    ∷ fresh (returns 0 ∷ returns 2 ∷ reach 0 ∷ []) 0 3 0 0
+    ∷ unwired (returns 0 ∷ []) 0 0 0 0
+    ∷ unwired (openRead 0 ∷ returns 0 ∷ poll 0 ∷ []) 0 0 0 0
+    ∷ unwired (openRead 0 ∷ returns 0 ∷ poll 0 ∷ poll 1 ∷ []) 6 0 0 0
+    ∷ unwired (openRead 0 ∷ returns 0 ∷ poll 0 ∷ poll 1 ∷ returns 1 ∷ poll 1 ∷ commit ∷ []) 0 500 0 0
+    ∷ unwired (returns 0 ∷ reach 0 ∷ []) 0 0 0 0
+    ∷ unwired (returns 0 ∷ returns 2 ∷ reach 0 ∷ []) 0 3 0 0
     -- a further lay takes every station off again; one that is refused takes none
     ∷ row (lay 3 1 500 pairs ∷ reach 0 ∷ []) 0 0 0 0
     ∷ row (lay 3 1 500 pairs ∷ openRead 0 ∷ poll 2 ∷ []) 6 0 0 0

@@ -9,7 +9,7 @@ use Rattle.rules.specs.Calls.{Call, lay, openRead, poll, put, commit, reach}
 use Rattle.frames.specs.Hex.{isDigit, allDigits, valueOf, byteOf, bytesIn}
 use Rattle.dispatch.specs.Dispatch.{frameLength, callsOf, callAt}
 use Rattle.frames.specs.Frame.{callByte, isFrame, callOf}
-use Rattle.frames.proofs.Text.{chars, text}
+use Rattle.frames.specs.Text.{chars, text}
 
 -- "For three stations, one item, the pair sets 0003, 0005, 0006 on both sides and value 500, the lay frame is .."
 layLine : List ℕ

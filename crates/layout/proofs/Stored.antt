@@ -1,14 +1,14 @@
 -- The copies after a commit and after a lay: what each writes, and the state that the bytes then hold.
 use mathlib.Core.Path.{_≡_, refl, sym, ap, _∙_}
 use mathlib.Core.Bool.{Bool, true, false, cond, _&&_}
-use mathlib.Core.List.{List, _∷_}
+use mathlib.Core.List.{List}
 use Prim.Native.Nat.{ℕ, zero, suc, _+_, _-_, _*_, _^_, _≤_, _<_}
 use native.Mathlib.Omega.{arith}
 use native.Mathlib.Nat.{add-zero, mul-le-mul-right, le-refl, not-suc-le-zero}
 use lib.Dec.{ltb, eqb}
 use lib.ListN.{length, replicate, length-append}
 use borrow.Author.Tests.{ltb-true, ltb-false, eqb-true, eqb-false}
-use Rattle.basics.specs.Bytes.{littleEndian, AreBytes}
+use Rattle.basics.specs.Bytes.{littleEndian, bytesOf, AreBytes}
 use Rattle.quorum.specs.Sets.{member, within, full}
 use Rattle.quorum.proofs.Promise.{promise}
 use Rattle.basics.proofs.Tests.{below-suc}
@@ -17,14 +17,13 @@ use Rattle.quorum.specs.Configurations.{configSize}
 use Rattle.layout.specs.Layout.{copySize, copyVersionAt, copyValueAt, copyGenerationAt, address, tableLength}
 use Rattle.layout.specs.Fields.{Copy, none, Round, stations, roundOf, copyFrom}
 use Rattle.layout.specs.View.{State}
-use Rattle.layout.specs.Updates.{noTarget, putData, copyBytes, repeated, alike, laid, putCopy, putCopies}
-use Rattle.basics.proofs.Parts.{number-lt, bytes-append, bytes-zeros, bytes-part}
+use Rattle.layout.specs.Updates.{noTarget, putData, copyBytes, repeated, laidHead, laid, putCopy, putCopies}
+use Rattle.basics.proofs.Parts.{number-lt, read-bytes, bytes-append, bytes-zeros, bytes-part}
 use Rattle.layout.proofs.Fields.{outside, outside-before, outside-after, Only, only-none, only-trans, only-wider, number-kept, copy-kept, round-kept}
 use Rattle.layout.proofs.Fields.{address-head, address-suc, address-fits, address-order, address-later}
 use Rattle.layout.proofs.Fields.{data-only, data-copy, config-only, config-copy, data-bytes, config-bytes}
 use Rattle.layout.proofs.Fields.{opened, table-head, target-length, copy-left, copy-right, copy-length, copy-bytes, copy-read}
-use Rattle.layout.proofs.Fields.{off-only}
-use Rattle.layout.proofs.Held.{Holds, withOff, withCopies, holds-off}
+use Rattle.layout.proofs.Held.{Holds, withCopies}
 
 -- a copy with what is stored at it: version and value by a data put, generation and configuration by a configuration put
 abbrev pub stored : Bool → Bool → Copy → Copy → Copy
@@ -244,15 +243,10 @@ unfolding repeated
 repeated-bytes zero l h = tt
 repeated-bytes (suc k) l h = bytes-append l (repeated k l) h (repeated-bytes k l h)
 
-alike-length : (n m value : ℕ) (config : List ℕ) → length config ≡ configSize → length (alike n m value config) ≡ tableLength n m
-unfolding tableLength
-alike-length n m value config e =
-    rw (length-append, repeated-length (n * m) (copyBytes 0 value 0 config) (copy-length 0 value 0 config e))
-
 pub laid-length : (n m value : ℕ) (config : List ℕ) → length config ≡ configSize → length (laid n m value config) ≡ tableLength n m
+unfolding tableLength bytesOf
 laid-length n m value config e =
-    let size = alike-length n m value config e in
-    off-only (alike n m value config) (rw size (table-head n m)) _ .size ∙ size
+    rw (length-append, repeated-length (n * m) (copyBytes 0 value 0 config) (copy-length 0 value 0 config e))
 
 -- the state after a lay: "every item alike, .. no round", and "all n stations in the off set"
 abbrev pub started : State → ℕ → ℕ → ℕ → List ℕ → State
@@ -267,32 +261,24 @@ started v n m value config =
       copies = λ i s. record { version = 0; value = value; generation = 0; config = config };
     }
 
--- before its stations go off
-holds-alike : (v : State) (n m value : ℕ) (config : List ℕ) → n < 256 → m < 256 → value < 2 ^ 64 → length config ≡ configSize → AreBytes config
-    → Holds (alike n m value config) (withOff (started v n m value config) 0)
-unfolding address littleEndian
-holds-alike v n m value config ln lm lv e b =
+pub holds-laid : (v : State) (n m value : ℕ) (config : List ℕ) → n ≤ 16 → m < 256 → value < 2 ^ 64 → length config ≡ configSize → AreBytes config
+    → Holds (laid n m value config) (started v n m value config)
+unfolding address littleEndian bytesOf
+holds-laid v n m value config few lm lv e b =
     let x = copyBytes 0 value 0 config in
-    let zeros : List ℕ = replicate (headSize - offAt) 0 in
+    let copies = repeated (n * m) x in
+    let zeros : List ℕ = replicate (headSize - kindAt) 0 in
+    let last = bytes-append zeros copies (bytes-zeros (headSize - kindAt)) (repeated-bytes (n * m) x (copy-bytes 0 value 0 config b)) in
     record {
-      bytes = (
-        ln,
-        (lm, bytes-append zeros (repeated (n * m) x) (bytes-zeros (headSize - offAt)) (repeated-bytes (n * m) x (copy-bytes 0 value 0 config b))),
-      );
-      size = alike-length n m value config e;
+      bytes = (omega arith, (lm, (omega arith, (omega arith, last))));
+      size = laid-length n m value config e;
       kind = omega arith;
       spare = refl;
       n = add-zero n;
       m = add-zero m;
-      off = refl;
+      off = read-bytes 2 (full n) (promise .within-16 n (full n) few (all-within n few));
       round = refl;
-      copies = λ i s p q. rw (add-zero n) (copy-right (n ∷ m ∷ zeros) (repeated (n * m) x) copiesAt (copySize * (i * n + s)) refl
+      copies = λ i s p q. rw (add-zero n) (copy-right (laidHead n m) copies copiesAt (copySize * (i * n + s)) refl
           ∙ repeated-copy (n * m) (i * n + s) x (copy-length 0 value 0 config e) (omega (arith, mul-le-mul-right n p))
           ∙ copy-read 0 value 0 config (omega arith) lv (omega arith) e);
     }
-
-pub holds-laid : (v : State) (n m value : ℕ) (config : List ℕ) → n ≤ 16 → m < 256 → value < 2 ^ 64 → length config ≡ configSize → AreBytes config
-    → Holds (laid n m value config) (started v n m value config)
-holds-laid v n m value config few lm lv e b =
-    holds-off (alike n m value config) _ (holds-alike v n m value config (omega arith) lm lv e b) (full n)
-    (promise .within-16 n (full n) few (all-within n few))

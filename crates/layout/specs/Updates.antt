@@ -45,13 +45,13 @@ unfoldable pub repeated : ℕ → List ℕ → List ℕ
 repeated zero bytes = []
 repeated (suc k) bytes = bytes ++ repeated k bytes
 
--- "Lay (n, m, starting value, configuration): every item alike, .. no round." "Versions and generations start at 0."
-abbrev pub alike : ℕ → ℕ → ℕ → List ℕ → List ℕ
-alike n m value config = (n ∷ m ∷ replicate (headSize - offAt) 0) ++ repeated (n * m) (copyBytes 0 value 0 config)
+-- "Lay (n, m, starting value, configuration): every item alike, .. no round." "Versions and generations start at 0." And document 02, 2026-02:
+-- "From now on lay puts all n stations in the off set."
+abbrev pub laidHead : ℕ → ℕ → List ℕ
+laidHead n m = n ∷ m ∷ (bytesOf 2 (full n) ++ replicate (headSize - kindAt) 0)
 
--- document 02, 2026-02: "From now on lay puts all n stations in the off set."
 abbrev pub laid : ℕ → ℕ → ℕ → List ℕ → List ℕ
-laid n m value config = setOff (alike n m value config) (full n)
+laid n m value config = laidHead n m ++ repeated (n * m) (copyBytes 0 value 0 config)
 
 -- ---- what commit writes
 -- "Then every put takes effect": what the round stores goes to one copy, its version and value by a data put, its generation and

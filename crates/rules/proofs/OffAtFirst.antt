@@ -24,7 +24,7 @@ use Rattle.rules.specs.Lists.{replies, afterAll, AllPassable}
 use Rattle.rules.specs.Needs.{needs, Allowed}
 use Rattle.rules.specs.Demand1.{ZeroFigures}
 use Rattle.rules.specs.Demand2.{QuorumIn}
-use Rattle.rules.specs.OffAtFirst.{moved, linkedOn, Bus, OffAtFirst}
+use Rattle.rules.specs.OffAtFirst.{onAfter, onAfterAll, Bus, OffAtFirst}
 use Rattle.rules.proofs.Judged.{numbered, a-round, at-station, sound-number}
 use Rattle.rules.proofs.Demand1.{refusal-changes-nothing, reply-figures}
 use Rattle.rules.proofs.States.{next}
@@ -59,7 +59,7 @@ module _ (t : Table) where
   unfolding needs
   laid-off n m value config a s l = promise .member-full n s (a .0 .1) ∙ lt-ltb s n l
 
-  link-moves : (on : ℕ → Bool) → OffBut v on → (k state : ℕ) → Allowed v (link k state) → OffBut (next v (link k state)) (λ s. moved s (on s) (link k state))
+  link-moves : (on : ℕ → Bool) → OffBut v on → (k state : ℕ) → Allowed v (link k state) → OffBut (next v (link k state)) (λ s. onAfter s (on s) (link k state))
   unfolding needs
   link-moves on h k state a s l =
       let below = a .1 .0 .0 in
@@ -68,7 +68,7 @@ module _ (t : Table) where
       (λ q. rw q (promise .member-remove (v .off) s k ∙ rw (h s l) (leaves (eqb s k) (on s)))) (a .1 .0 .1)
 
   -- every call
-  moves : (on : ℕ → Bool) → OffBut v on → (c : Call) → Allowed v c → OffBut (next v c) (λ s. moved s (on s) c)
+  moves : (on : ℕ → Bool) → OffBut v on → (c : Call) → Allowed v c → OffBut (next v c) (λ s. onAfter s (on s) c)
   moves on h (lay n m value config) a = laid-off n m value config a
   moves on h (openRead i) a = h
   moves on h (openWrite i value) a = h
@@ -86,10 +86,10 @@ seen t c e b p on h s l = let x = next-view t c e b p in rw (x .off) (h s (rw (x
 
 -- any call: one that is refused moves none
 goes-on : (t : Table) (c : Call) (on : ℕ → Bool) → AreBytes t → Passable c → OffBut (view t) on
-    → OffBut (view (after t c)) (λ s. cond (eqb (reply t c .number) 0) (moved s (on s) c) (on s))
+    → OffBut (view (after t c)) (λ s. cond (eqb (reply t c .number) 0) (onAfter s (on s) c) (on s))
 goes-on t c on b p h =
-    by-cases (λ (x : Bool). OffBut (view (after t c)) (λ s. cond x (moved s (on s) c) (on s))) (eqb (reply t c .number) 0)
-    (λ q. let e = eqb-true (reply t c .number) 0 q in seen t c e b p (λ s. moved s (on s) c) (moves t on h c (done-allowed t c e)))
+    by-cases (λ (x : Bool). OffBut (view (after t c)) (λ s. cond x (onAfter s (on s) c) (on s))) (eqb (reply t c .number) 0)
+    (λ q. let e = eqb-true (reply t c .number) 0 q in seen t c e b p (λ s. onAfter s (on s) c) (moves t on h c (done-allowed t c e)))
     (λ q. rw (refusal-changes-nothing t c (eqb-false (reply t c .number) 0 q)) h)
 
 -- ---- a list of calls
@@ -110,7 +110,7 @@ laid-settled t n m value config b p e =
     }
 
 settled : (t : Table) (calls : List Call) (on : ℕ → Bool) → AllPassable calls → Settled t on
-    → Settled (afterAll t calls) (λ s. linkedOn s (on s) calls (replies t calls))
+    → Settled (afterAll t calls) (λ s. onAfterAll s (on s) calls (replies t calls))
 unfolding afterAll replies
 settled t [] on p f = f
 settled t (c ∷ calls) on p f =
@@ -186,10 +186,10 @@ module _ (t : Table) (on : ℕ → Bool) (f : Settled t on) where
       }
 
 pub off-at-first : OffAtFirst
-unfolding afterAll
+unfolding afterAll replies
 off-at-first =
     record {
+      on-by-link = λ t on n m value config calls b p e. rw e (bus _ _ (settled _ calls _ (p .1) (laid-settled t n m value config b (p .0) e)));
       reach-gives-0 = λ t n m value config b p e i l.
           reached _ _ (laid-settled t n m value config b p e) (λ s _. refl) i (rw (done-step t (lay n m value config) e b p .items) l);
-      on-by-link = λ t n m value config calls b p e. bus _ _ (settled _ calls _ (p .1) (laid-settled t n m value config b (p .0) e));
     }

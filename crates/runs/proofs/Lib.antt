@@ -4,4 +4,4 @@ pub mod Clipped
 pub mod Pieces
 pub mod Printing
 pub mod Claims
-mod Examples
+pub mod Examples

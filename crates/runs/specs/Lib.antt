@@ -4,3 +4,4 @@ pub mod Run
 pub mod Pieces
 pub mod Calls
 pub mod Claims
+pub mod FrameCases

@@ -10,15 +10,15 @@ use lib.Dec.{eqb}
 use lib.ListN.{length, replicate, length-append}
 use lib.Seq.{take-all}
 use borrow.Author.Tests.{eqb-true, not-false}
-use Rattle.quorum.specs.Sets.{member}
+use Rattle.quorum.specs.Sets.{member, full}
 use Rattle.basics.specs.Bytes.{part, bytesOf, over}
 use Rattle.basics.proofs.Tests.{or-false-left, or-false-right}
 use Rattle.quorum.proofs.Promise.{promise}
 use Rattle.quorum.specs.Configurations.{configSize}
-use Rattle.layout.specs.Layout.{headSize, copiesAt, copySize, address, tableLength}
+use Rattle.layout.specs.Layout.{headSize, offAt, copiesAt, copySize, address, tableLength}
 use Rattle.layout.specs.Fields.{Copy, Round}
 use Rattle.table.specs.Search.{InTable}
-use Rattle.layout.specs.Updates.{putData, putConfig, copyBytes, repeated, alike, putCopies}
+use Rattle.layout.specs.Updates.{setOff, putData, putConfig, copyBytes, repeated, laidHead, laid, putCopies}
 use Rattle.basics.proofs.Parts.{part-left, part-length, length-over, part-inside, part-whole, length-bytes, over-again, over-append, over-own}
 use Rattle.basics.proofs.Writing.{over-all}
 use Rattle.layout.proofs.Fields.{address-head, copy-length}
@@ -117,13 +117,18 @@ all-copies t zero copy some size fits = absurd (not-suc-le-zero some)
 all-copies t (suc k) copy some size fits =
     over-first t copiesAt copy (repeated k copy) (rw (length-append, repeated-length k copy size, size) (omega arith))
 
--- the head, the first copy and all copies, one after the other, are the whole table before its stations go off
+-- two bytes and zeros, and the off set written over the first of these, are the head
+pub head-off : (t : List ℕ) (n m : ℕ) → setOff (over t 0 (n ∷ m ∷ replicate (headSize - offAt) 0)) (full n) ≡ over t 0 (laidHead n m)
+unfolding setOff over bytesOf
+head-off t n m = refl
+
+-- the head, the first copy and all copies, one after the other, are the whole table
 pub lay-all : (t : List ℕ) (n m value : ℕ) (config : List ℕ) → 1 ≤ n * m → length t ≡ tableLength n m → length config ≡ configSize
-    → {h u : List ℕ} → h ≡ over t 0 (n ∷ m ∷ replicate 54 0) → u ≡ over h copiesAt (copyBytes 0 value 0 config)
-    → over u copiesAt (repeated (n * m) (part u copiesAt copySize)) ≡ alike n m value config
-unfolding tableLength
+    → {h u : List ℕ} → h ≡ over t 0 (laidHead n m) → u ≡ over h copiesAt (copyBytes 0 value 0 config)
+    → over u copiesAt (repeated (n * m) (part u copiesAt copySize)) ≡ laid n m value config
+unfolding tableLength bytesOf
 lay-all t n m value config some size long {h} {u} first second =
-    let head = n ∷ m ∷ replicate 54 0 in
+    let head = laidHead n m in
     let copy = copyBytes 0 value 0 config in
     let copies = repeated (n * m) copy in
     let e = copy-length 0 value 0 config long in

@@ -5,10 +5,10 @@ ghost use Prim.Native.Nat.{_+_, _*_, _≤_, min};
 ghost use lib.ListN.{length};
 ghost use Rattle.basics.specs.Bytes.{part, over};
 ghost use Rattle.quorum.specs.Configurations.{configSize};
-ghost use Rattle.layout.specs.Layout.{copiesAt, copySize, tableLength};
+ghost use Rattle.layout.specs.Layout.{headSize, copiesAt, copySize, tableLength};
 ghost use Rattle.layout.specs.Fields.{newCopy};
 ghost use Rattle.table.specs.Search.{InTable};
-ghost use Rattle.layout.specs.Updates.{putData, putConfig, copyBytes, repeated, alike, laid, putCopies, closed};
+ghost use Rattle.layout.specs.Updates.{putData, putConfig, copyBytes, repeated, laidHead, laid, putCopies, closed};
 ghost use Rattle.rounds.specs.Round.{asRound, roundIn};
 use layout::COPIES_AT;
 use layout::COPY_SIZE;
@@ -153,21 +153,21 @@ fn lay_rest(t: &mut [u8], copies: usize)
     }
 }
 
-// Writes every byte of a table: its head with no round and no station off the bus, and its copies, all alike.
-fn lay_alike(t: &mut [u8], n: u64, m: u64, value: u64, config: &[u8])
-    requires { ⌜ (1 ≤ n) × (n ≤ 16) × (1 ≤ m) × (m ≤ 32) × (length (now t) ≡ tableLength n m) × (length (now config) ≡ configSize) ⌝ }
-    ensures { λ _. ⌜ now (t .exit) ≡ alike n m value (now (config .entry)) ⌝ }
+// Writes the head: no round, and every station off the bus.
+fn lay_head(t: &mut [u8], n: u64, m: u64)
+    requires { ⌜ (n ≤ 16) × (m ≤ 32) × (headSize ≤ length (now t)) ⌝ }
+    ensures { λ _. ⌜ now (t .exit) ≡ over (now (t .entry)) 0 (laidHead n m) ⌝ }
 {
     put_pair(t, STATIONS_AT, n as u8, m as u8, HEAD_SIZE - OFF_AT);
-    lay_first(t, value, config);
-    lay_rest(t, n as usize * m as usize)
+    set_off(t, sets::all_stations(n as usize))
 }
 
-// The same, and every station goes off the bus.
+// Writes every byte of a table: its head, and its copies, all alike.
 pub fn lay_bytes(t: &mut [u8], n: u64, m: u64, value: u64, config: &[u8])
     requires { ⌜ (1 ≤ n) × (n ≤ 16) × (1 ≤ m) × (m ≤ 32) × (length (now t) ≡ tableLength n m) × (length (now config) ≡ configSize) ⌝ }
     ensures { λ _. ⌜ now (t .exit) ≡ laid n m value (now (config .entry)) ⌝ }
 {
-    lay_alike(t, n, m, value, config);
-    set_off(t, sets::all_stations(n as usize))
+    lay_head(t, n, m);
+    lay_first(t, value, config);
+    lay_rest(t, n as usize * m as usize)
 }
