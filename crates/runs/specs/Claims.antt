@@ -1,4 +1,4 @@
--- What is proved of lines, frames and sessions; the value is in proofs/Claims.antt.
+-- What is proved of lines, frames and sessions; the proof is in proofs/Claims.antt.
 use mathlib.Core.Path.{_≡_}
 use mathlib.Core.Bool.{true}
 use mathlib.Core.List.{List, [], _∷_, _++_}
