@@ -52,14 +52,17 @@ module _ (t : List ℕ) (a : ℕ) (l : List ℕ) (fits : a + length l ≤ length
       rw (e, ← append-assoc (take a t) l (drop (a + length l) t))
       (part-right (take a t ++ l) (drop (a + length l) t) (a + length l) o k f ∙ ap (take k) (drop-drop o (a + length l) t))
 
--- the same bytes written once more
-pub over-again : (t : List ℕ) (a : ℕ) (l : List ℕ) → a + length l ≤ length t → over (over t a l) a l ≡ over t a l
+-- other bytes written over those that were written, as many, and the same bytes once more
+pub over-over : (t : List ℕ) (a : ℕ) (l r : List ℕ) → length r ≡ length l → a + length l ≤ length t → over (over t a l) a r ≡ over t a r
 unfolding over
-over-again t a l fits =
+over-over t a l r same fits =
     let d = drop (a + length l) t in
     let e : length (take a t ++ l) ≡ a + length l = simp (length-append, front t a l fits) in
     let f : drop (a + length l) (take a t ++ (l ++ d)) ≡ d = rw (← append-assoc (take a t) l d) (drop-at (take a t ++ l) d (a + length l) e) in
-    rw (take-at (take a t) (l ++ d) a (front t a l fits), f)
+    rw (same, take-at (take a t) (l ++ d) a (front t a l fits), f)
+
+pub over-again : (t : List ℕ) (a : ℕ) (l : List ℕ) → a + length l ≤ length t → over (over t a l) a l ≡ over t a l
+over-again t a l fits = over-over t a l l refl fits
 
 -- ---- numbers
 pub length-bytes : (k x : ℕ) → length (bytesOf k x) ≡ k

@@ -85,6 +85,7 @@ table =
     ∷ unwired (openWrite 0 510 ∷ poll 1 ∷ []) 6 0 0 0
     ∷ unwired (openChange 0 single ∷ poll 2 ∷ []) 6 0 0 0
     ∷ unwired (openWrite 0 510 ∷ dataPut 2 ∷ []) 6 0 0 0
+    ∷ unwired (openChange 0 single ∷ configPut 1 ∷ []) 6 0 0 0
     -- until that station's link, and no other's; a round that was open before goes on with it
     ∷ unwired (returns 0 ∷ []) 0 0 0 0
     ∷ unwired (openRead 0 ∷ returns 0 ∷ poll 0 ∷ []) 0 0 0 0

@@ -1,35 +1,39 @@
--- Every station is off after a lay, and links alone bring one on: by induction on the list.
-use mathlib.Core.Path.{_≡_, refl, sym, _∙_}
+-- Every station is off after a lay, and links alone bring one on: by induction on the list. A link call per station, by induction on their number.
+use mathlib.Core.Path.{_≡_, refl, sym, ap, _∙_}
 use mathlib.Core.Bool.{Bool, true, false, not, cond, _&&_, _||_}
 use mathlib.Core.List.{List, [], _∷_}
-use mathlib.Core.Logic.{_↔_, _⊎_, ⊎-elim}
-use Prim.Native.Nat.{ℕ, _<_}
+use mathlib.Core.Logic.{_↔_, _⊎_, inr, ⊎-elim}
+use Prim.Native.Nat.{ℕ, zero, suc, _+_, _≤_, _<_}
 use native.Mathlib.Omega.{arith}
 use lib.Dec.{eqb, ltb}
-use borrow.Author.Tests.{lt-ltb, ltb-true, eqb-true, eqb-false}
+use borrow.Author.Tests.{lt-ltb, ltb-true, eqb-true, eqb-false, not-true}
 use Rattle.basics.specs.Bytes.{AreBytes}
 use Rattle.basics.proofs.Tests.{clash, by-cases, and-left, and-right}
-use Rattle.quorum.specs.Sets.{member}
+use Rattle.quorum.specs.Sets.{member, remove}
 use Rattle.quorum.proofs.Promise.{promise}
 use Rattle.layout.specs.Fields.{none}
 use Rattle.layout.specs.Soundness.{sound}
 use Rattle.layout.specs.View.{Table, State, view, heard}
-use Rattle.layout.proofs.Soundness.{is-sound}
+use Rattle.layout.specs.Updates.{setOff, laid}
+use Rattle.layout.proofs.Fields.{off-only, off-round, off-bytes}
+use Rattle.layout.proofs.Again.{off-over, own-off, own-puts}
+use Rattle.layout.proofs.Soundness.{is-sound, sound-head}
 use Rattle.rules.specs.Calls.{Call, lay, openRead, openWrite, openChange, poll, put, commit, abandon, link, reach}
-use Rattle.rules.specs.Calls.{dataSort, configSort}
+use Rattle.rules.specs.Calls.{dataSort, configSort, onState}
 use Rattle.rules.specs.Passed.{Passable}
 use Rattle.rules.specs.Rules.{first, tests, readingOver, wrongPut, spentAtPut}
 use Rattle.rules.specs.Reply.{replyOf, reply, after}
+use Rattle.rules.specs.After.{done}
 use Rattle.rules.specs.Lists.{replies, afterAll, AllPassable}
 use Rattle.rules.specs.Needs.{needs, Allowed}
 use Rattle.rules.specs.Demand1.{ZeroFigures}
 use Rattle.rules.specs.Demand2.{QuorumIn}
-use Rattle.rules.specs.OffAtFirst.{onAfter, onAfterAll, Bus, OffAtFirst}
+use Rattle.rules.specs.OffAtFirst.{onAfter, onAfterAll, Bus, links, OffAtFirst}
 use Rattle.rules.proofs.Judged.{numbered, a-round, at-station, sound-number}
 use Rattle.rules.proofs.Demand1.{refusal-changes-nothing, reply-figures}
 use Rattle.rules.proofs.States.{next}
 use Rattle.rules.proofs.Steps.{reach-step}
-use Rattle.rules.proofs.Laws.{done-allowed, done-step, next-view, bytes-kept}
+use Rattle.rules.proofs.Laws.{done-after, done-allowed, done-step, next-view, bytes-kept}
 use Rattle.rules.proofs.Kept.{after-sound, stays-sound}
 
 -- the stations of the off set are those that are not on
@@ -185,6 +189,54 @@ module _ (t : Table) (on : ℕ → Bool) (f : Settled t on) where
         reaches = reached;
       }
 
+-- ---- a link call per station
+-- a link of a station to on is done, and changes the off set alone
+link-done : (t : Table) → sound t ≡ true → (s : ℕ) → s < view t .n → reply t (link s onState) .number ≡ 0
+unfolding needs view
+link-done t f s l = numbered .done-exactly t (link s onState) .1 (f, ((l, inr refl), tt))
+
+link-bytes : (t : Table) → AreBytes t → sound t ≡ true → (s : ℕ) → s < view t .n → after t (link s onState) ≡ setOff t (remove (view t .off) s)
+unfolding done view
+link-bytes t b f s l =
+    let e = link-done t f s l in
+    let h = sound-head t f in
+    let off = remove (view t .off) s in
+    let same = off-round t h off in
+    done-after t (link s onState) e ∙ rw (← ap (λ r. r .dataPuts) same, ← ap (λ r. r .configPuts) same)
+    (own-puts (setOff t off) (rw (off-only t h off .size) h) (off-bytes t b off))
+
+-- the stations that are off are linked, one after the other
+all-on : (count k : ℕ) (t : Table) → AreBytes t → sound t ≡ true → k + count ≤ view t .n
+    → ((i : ℕ) → member (view t .off) i ≡ true → (k ≤ i) × (i < k + count)) → afterAll t (links k count) ≡ setOff t 0
+unfolding afterAll
+all-on zero k t b f few h =
+    let none : view t .off ≡ 0 = promise .same-members (view t .off) 0
+    (λ i m. let p = h i m in absurd (omega arith)) (λ i m. clash m (promise .member-empty i)) in
+    sym (rw none at (own-off t (sound-head t f) b))
+all-on (suc count) k t b f few h =
+    let c = link k onState in
+    let l : k < view t .n = omega arith in
+    let e = link-done t f k l in
+    let d = done-step t c e b tt in
+    let rest = all-on count (suc k) (after t c) (bytes-kept t c b tt) (after-sound t c b tt e) (rw (d .copies .n) (omega arith))
+    (λ i m. later i (sym (d .comesOn refl .0 i) ∙ m)) in
+    rest ∙ ap (λ u. setOff u 0) (link-bytes t b f k l) ∙ off-over t (sound-head t f) (remove (view t .off) k) 0
+  where
+    later : (i : ℕ) → (member (view t .off) i && not (eqb i k)) ≡ true → (suc k ≤ i) × (i < suc k + count)
+    later i m =
+        let x = h i (and-left (member (view t .off) i) (not (eqb i k)) m) in
+        let y = eqb-false i k (not-true (eqb i k) (and-right (member (view t .off) i) (not (eqb i k)) m)) in
+        (omega (arith, x, y), omega (arith, x))
+
+all-linked : (t : Table) (n m value : ℕ) (config : List ℕ) → AreBytes t → Passable (lay n m value config) → reply t (lay n m value config) .number ≡ 0
+    → afterAll t (lay n m value config ∷ links 0 n) ≡ setOff (laid n m value config) 0
+unfolding afterAll done
+all-linked t n m value config b p e =
+    let c = lay n m value config in
+    let d = done-step t c e b p in
+    all-on n 0 (after t c) (bytes-kept t c b p) (after-sound t c b p e) (rw (d .stations) (omega arith))
+    (λ i m. (omega arith, let x = ltb-true i n (sym (d .off i) ∙ m) in omega arith)) ∙ ap (λ u. setOff u 0) (done-after t c e)
+
 pub off-at-first : OffAtFirst
 unfolding afterAll replies
 off-at-first =
@@ -192,4 +244,5 @@ off-at-first =
       on-by-link = λ t on n m value config calls b p e. rw e (bus _ _ (settled _ calls _ (p .1) (laid-settled t n m value config b (p .0) e)));
       reach-gives-0 = λ t n m value config b p e i l.
           reached _ _ (laid-settled t n m value config b p e) (λ s _. refl) i (rw (done-step t (lay n m value config) e b p .items) l);
+      all-linked = all-linked;
     }

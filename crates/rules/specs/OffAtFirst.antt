@@ -1,18 +1,20 @@
--- "New stations start off the bus" (document 02, 2026-02). After a lay that is done every station is off (`Laid` of Steps.antt). From then on, over every list of
--- calls, a station is on the bus exactly if the last call that moved it, a lay or a link of it, was a link that brought it on. So in a round a poll of
--- a station gets 6 until that station's link, and while no station is on reach gives 0 for every item.
+-- "New stations start off the bus" (document 02, 2026-02). After a lay that is done every station is off (`Laid` of Steps.antt). From then on, over every
+-- list of calls, a station is on the bus exactly if the last call that moved it, a lay or a link of it, was a link that brought it on. So in a round a
+-- poll or a put at a station gets 6 exactly while it is not on, and while no station is on reach gives 0 for every item. With "a link call per
+-- station" behind it, a lay gives the table that document 01's lay gave.
 use mathlib.Core.Path.{_≡_}
 use mathlib.Core.Bool.{Bool, false, not, cond}
 use mathlib.Core.List.{List, [], _∷_}
 use mathlib.Core.Logic.{_↔_, _⊎_}
-use Prim.Native.Nat.{ℕ, _<_}
+use Prim.Native.Nat.{ℕ, zero, suc, _<_}
 use lib.Dec.{eqb}
 use Rattle.basics.specs.Bytes.{AreBytes}
 use Rattle.quorum.specs.Sets.{member}
 use Rattle.layout.specs.Fields.{none}
 use Rattle.layout.specs.View.{Table, view}
+use Rattle.layout.specs.Updates.{setOff, laid}
 use Rattle.rules.specs.Calls.{Call, lay, openRead, openWrite, openChange, poll, put, commit, abandon, link, reach}
-use Rattle.rules.specs.Calls.{dataSort, configSort, isOn}
+use Rattle.rules.specs.Calls.{dataSort, configSort, onState, isOn}
 use Rattle.rules.specs.Passed.{Passable}
 use Rattle.rules.specs.Reply.{reply, after}
 use Rattle.rules.specs.Lists.{replies, afterAll, AllPassable}
@@ -48,13 +50,21 @@ pub record Bus (t : Table) (on : ℕ → Bool) : Type 0 where
   -- while none is on, reach gives 0 for every item
   pub reaches : ((s : ℕ) → s < view t .n → on s ≡ false) → (i : ℕ) → i < view t .m → (reply t (reach i) .number ≡ 0) × ZeroFigures (reply t (reach i))
 
+-- a link call per station, from station k on, as many as the count says
+abbrev pub links : ℕ → ℕ → List Call
+links k zero = []
+links k (suc count) = link k onState ∷ links (suc k) count
+
 pub record OffAtFirst : Type 0 where
   -- over every list of demand 3, refused calls and further lays included, whatever stations were on before it
   pub on-by-link : (t : Table) (on : ℕ → Bool) (n m value : ℕ) (config : List ℕ) (calls : List Call)
       → AreBytes t → AllPassable (lay n m value config ∷ calls) → reply t (lay n m value config) .number ≡ 0
       → Bus (afterAll t (lay n m value config ∷ calls))
       (λ s. onAfterAll s (on s) (lay n m value config ∷ calls) (replies t (lay n m value config ∷ calls)))
-  -- reach where no call follows the lay, by the lay's own m
+  -- that again of reach, just after the lay and by the lay's own m
   pub reach-gives-0 : (t : Table) (n m value : ℕ) (config : List ℕ) → AreBytes t → Passable (lay n m value config)
       → reply t (lay n m value config) .number ≡ 0 → (i : ℕ) → i < m
       → (reply (after t (lay n m value config)) (reach i) .number ≡ 0) × ZeroFigures (reply (after t (lay n m value config)) (reach i))
+  -- "all stations on", and every other byte as the lay left it
+  pub all-linked : (t : Table) (n m value : ℕ) (config : List ℕ) → AreBytes t → Passable (lay n m value config)
+      → reply t (lay n m value config) .number ≡ 0 → afterAll t (lay n m value config ∷ links 0 n) ≡ setOff (laid n m value config) 0

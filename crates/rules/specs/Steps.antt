@@ -56,7 +56,7 @@ abbrev pub NoRound : Round → Type 0
 NoRound r = Fresh r none 0 0 noTarget
 
 -- ---- lay: "every item alike, .. no round." "Versions and generations start at 0." And document 02, 2026-02: "From now on lay puts all n stations in the
--- off set." What that means for polls and reach is in OffAtFirst.antt.
+-- off set." What that means for polls, puts and reach is in OffAtFirst.antt.
 pub record Laid (w : State) (n m value : ℕ) (config : List ℕ) : Type 0 where
   pub stations : w .n ≡ n
   pub items : w .m ≡ m

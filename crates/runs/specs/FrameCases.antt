@@ -1,4 +1,4 @@
--- Whole runs, computed: document 01's frame case, and lines that are refused.
+-- Whole runs, computed: document 01's frame case; and lines that are refused, with the stations of a new table off until linked.
 use mathlib.Core.Path.{_≡_}
 use mathlib.Core.List.{List, [], _∷_, _++_}
 use Prim.Native.Nat.{ℕ}
@@ -39,7 +39,7 @@ frameReplies = shown
     ∷ "0700F40100000000000000000000000000000000000000000000"
     ∷ [])
 
--- before a lay succeeds the table is empty; lines that are no frames; after a lay nothing is reached and a poll gets 6 until the links; a
+-- before a lay succeeds the table is empty; lines that are no frames; after a lay nothing is reached, and a poll gets 6 until its station's link; a
 -- lay that is refused, with n = 0 or a false configuration, keeps the table
 unfoldable pub refusedCase : List ℕ
 refusedCase = shown
