@@ -333,9 +333,9 @@ ospreyscreen_reply opt_lay(uint8_t *table, size_t len, uint64_t n, uint64_t m, u
     if (config_len != OSPREYSCREEN_CONFIGURATION_LENGTH || !valid(get_configuration(config), n)) {
         return refused(OSPREYSCREEN_FALSE_CONFIGURATION);
     }
-    memset(table, 0, HEAD);
-    table[0] = (uint8_t)n;
-    table[1] = (uint8_t)m;
+    uint64_t off = (UINT64_C(1) << n) - 1;
+    set_word(table, n | m << 8 | off << 16);
+    memset(table + 8, 0, HEAD - 8);
 
     uint8_t *copies = table + HEAD;
     set_word(copies + VERSION, 0);

@@ -30,7 +30,7 @@ void damage_tie(rng *r, uint8_t *table, unsigned item);
 void damage_counters(rng *r, uint8_t *table, size_t len);
 
 /* A whole sound table of n stations and m items, 1 to 255 each: copies all
- * different, no round. */
+ * different, every station on the bus, no round. */
 void damage_fresh(rng *r, uint8_t *table, unsigned n, unsigned m);
 
 /* Opens a sound round of the kind by hand: any item, polls and puts. */

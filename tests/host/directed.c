@@ -119,6 +119,43 @@ static void poll_all(generator *g, unsigned n)
     }
 }
 
+static void put_all(generator *g, unsigned n, uint64_t sort)
+{
+    for (unsigned station = 0; station < n; station++) {
+        make(g, call_put(station, sort));
+    }
+}
+
+/* Both puts at every station. */
+static void put_both(generator *g, unsigned n)
+{
+    put_all(g, n, OSPREYSCREEN_PUT_DATA);
+    put_all(g, n, OSPREYSCREEN_PUT_CONFIGURATION);
+}
+
+/* Links a station of the set, and takes it out of the set. */
+static void link_one(generator *g, unsigned *set)
+{
+    unsigned station = station_of(&g->source, *set);
+    make(g, call_link(station, OSPREYSCREEN_LINK_ON));
+    *set &= ~(1u << station);
+}
+
+/* Links the stations of the set, in any order. */
+static void link_all(generator *g, unsigned set)
+{
+    while (set != 0) {
+        link_one(g, &set);
+    }
+}
+
+static void reach_all(generator *g, unsigned m)
+{
+    for (unsigned item = 0; item < m; item++) {
+        make(g, call_reach(item));
+    }
+}
+
 /* An opening and a lay whose configurations may have any length. */
 static void open_change(generator *g, uint64_t item, const uint8_t *target, size_t len)
 {
@@ -140,9 +177,7 @@ static void write_round(generator *g, unsigned n, unsigned item)
 {
     make(g, call_open_write(item, rng_next(&g->source)));
     poll_all(g, n);
-    for (unsigned station = 0; station < n; station++) {
-        make(g, call_put(station, OSPREYSCREEN_PUT_DATA));
-    }
+    put_all(g, n, OSPREYSCREEN_PUT_DATA);
     make(g, call_commit());
 }
 
@@ -158,14 +193,11 @@ static void change_round(generator *g, unsigned n, unsigned item, const uint8_t 
 {
     open_change(g, item, target, CONFIGURATION);
     poll_all(g, n);
-    for (unsigned station = 0; station < n; station++) {
-        make(g, call_put(station, OSPREYSCREEN_PUT_DATA));
-        make(g, call_put(station, OSPREYSCREEN_PUT_CONFIGURATION));
-    }
+    put_both(g, n);
     make(g, call_commit());
 }
 
-/* Every n and m: laid, and a round of each kind on the last item. */
+/* Every n and m: laid, linked, and a round of each kind on the last item. */
 static void every_size(generator *g, uint64_t index)
 {
     unsigned n = 1 + (unsigned)index % STATIONS;
@@ -174,6 +206,7 @@ static void every_size(generator *g, uint64_t index)
 
     record_table(&g->to, OSPREYSCREEN_TABLE_LENGTH(n, m), GUARD_AFTER, false);
     make(g, generate_lay(g, n, m));
+    link_all(g, all_stations(n));
     write_round(g, n, m - 1);
     draw_configuration(&g->source, n, config);
     change_round(g, n, m - 1, config);
@@ -738,8 +771,8 @@ static void any_sound_table(generator *g, uint64_t index)
     }
 }
 
-/* The quorums move to stations that no old set names, and back, and rounds go
- * on; the book covers these. */
+/* The quorums move to stations that no old set names and that are linked only
+ * then, and back, and rounds go on; the book covers these. */
 static void moves(generator *g, uint64_t index)
 {
     rng *r = &g->source;
@@ -753,11 +786,137 @@ static void moves(generator *g, uint64_t index)
     configuration_among(r, all_stations(n) & ~low, there);
     record_table(&g->to, OSPREYSCREEN_TABLE_LENGTH(n, 1u), GUARD_ODD, false);
     lay(g, n, 1, here, CONFIGURATION);
+    link_all(g, low);
+    write_round(g, n, 0);
+    link_all(g, all_stations(n) & ~low);
     for (int turn = 0; turn < 3; turn++) {
         write_round(g, n, 0);
         change_round(g, n, 0, turn % 2 == 0 ? there : here);
         make(g, call_reach(0));
         read_round(g, n, 0);
+    }
+}
+
+/* ---- Stations not linked since the lay ---- */
+
+/* Lists on a table of every n and some m, with rounds of one kind. */
+enum { LAID_KINDS = OSPREYSCREEN_ROUND_CHANGE, LAID_ITEMS = 3,
+       LAID_LISTS = STATIONS * LAID_KINDS * LAID_ITEMS };
+
+typedef struct {
+    unsigned n;
+    unsigned m;
+    unsigned kind;
+} laid_house;
+
+/* Starts a list with a lay. */
+static laid_house begin_laid(generator *g, uint64_t index)
+{
+    laid_house h = {.n = 1 + (unsigned)index % STATIONS,
+                    .m = 1 + (unsigned)index / STATIONS % LAID_ITEMS,
+                    .kind = 1 + (unsigned)index / (STATIONS * LAID_ITEMS)};
+
+    record_table(&g->to, OSPREYSCREEN_TABLE_LENGTH(h.n, h.m), draw_place(&g->source), false);
+    make(g, generate_lay(g, h.n, h.m));
+    return h;
+}
+
+/* Opens a round on the last item. */
+static void open_laid(generator *g, const laid_house *h)
+{
+    switch (h->kind) {
+    case OSPREYSCREEN_ROUND_READ:
+        make(g, call_open_read(h->m - 1));
+        break;
+    case OSPREYSCREEN_ROUND_WRITE:
+        make(g, call_open_write(h->m - 1, rng_next(&g->source)));
+        break;
+    default:
+        draw_configuration(&g->source, h->n, g->config);
+        open_change(g, h->m - 1, g->config, CONFIGURATION);
+        break;
+    }
+}
+
+/* What shows who is off: the reach of every item, and a round that turns to
+ * every station and is given up. */
+static void look_at_stations(generator *g, const laid_house *h)
+{
+    reach_all(g, h->m);
+    open_laid(g, h);
+    poll_all(g, h->n);
+    put_both(g, h->n);
+    make(g, call_abandon());
+}
+
+/* A table as it is laid, and after the first link of each station in turn. */
+static void first_links(generator *g, uint64_t index)
+{
+    laid_house h = begin_laid(g, index);
+
+    look_at_stations(g, &h);
+    for (unsigned unlinked = all_stations(h.n); unlinked != 0;) {
+        link_one(g, &unlinked);
+        look_at_stations(g, &h);
+    }
+}
+
+/* The same inside one round: the stations are polled as they come. */
+static void late_links(generator *g, uint64_t index)
+{
+    laid_house h = begin_laid(g, index);
+
+    open_laid(g, &h);
+    poll_all(g, h.n);
+    for (unsigned unlinked = all_stations(h.n); unlinked != 0;) {
+        link_one(g, &unlinked);
+        poll_all(g, h.n);
+        make(g, call_reach(h.m - 1));
+    }
+    put_both(g, h.n);
+    make(g, call_commit());
+}
+
+/* Each lay that is refused, and a look at the stations after it. */
+static void refused_lays(generator *g, const laid_house *h)
+{
+    uint8_t config[CONFIGURATION];
+    uint8_t false_config[CONFIGURATION] = {0};
+    call refused[] = {
+        call_lay(h->n, h->m, 0, config),     call_lay(h->n, h->m, 0, false_config),
+        call_lay(0, h->m, 0, config),        call_lay(STATIONS + 1, h->m, 0, config),
+        call_lay(h->n, 0, 0, config),        call_lay(h->n, ITEMS + 1, 0, config),
+        call_lay(h->n, h->m + 1, 0, config),
+    };
+
+    refused[0].config_len--;
+    draw_configuration(&g->source, h->n, config);
+    for (size_t i = 0; i < sizeof refused / sizeof refused[0]; i++) {
+        make(g, refused[i]);
+        look_at_stations(g, h);
+    }
+}
+
+/* A lay that is refused leaves the stations as they are; one that is not takes
+ * them all off again, over an open round too, with the same n and with each
+ * other that makes as many copies. */
+static void laid_again(generator *g, uint64_t index)
+{
+    laid_house h = begin_laid(g, index);
+    unsigned copies = h.n * h.m;
+
+    link_all(g, draw_some(&g->source, all_stations(h.n)));
+    refused_lays(g, &h);
+    for (h.n = 1; h.n <= STATIONS; h.n++) {
+        h.m = copies / h.n;
+        if (copies % h.n == 0 && h.m <= ITEMS) {
+            make(g, generate_lay(g, h.n, h.m));
+            look_at_stations(g, &h);
+            link_all(g, draw_some(&g->source, all_stations(h.n)));
+            open_laid(g, &h);
+            poll_all(g, h.n);
+            put_both(g, h.n);
+        }
     }
 }
 
@@ -772,6 +931,9 @@ typedef struct {
 static const group GROUPS[] = {
     {many_refusals, (uint64_t)64 * 7 * 3},
     {moves, (uint64_t)20 * (STATIONS - 1)},
+    {first_links, LAID_LISTS},
+    {late_links, LAID_LISTS},
+    {laid_again, LAID_LISTS},
     {any_sound_table, 4800},
     {one_clause, (uint64_t)SIZE_COUNT * BROKEN_CLAUSES},
     {every_length, (uint64_t)GUARD_PLACES * LENGTHS},

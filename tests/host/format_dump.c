@@ -1,7 +1,7 @@
 /*
- * Prints the table of docs/FORMAT.md, eight bytes a line: three stations, one
- * item, in the middle of a second write. test_docs.py holds the document to
- * what this program prints.
+ * Prints the table of docs/FORMAT.md, eight bytes a line: three stations, all
+ * linked and one dropped since, one item, in the middle of a second write.
+ * test_docs.py holds the document to what this program prints.
  */
 #include "ospreyscreen.h"
 
@@ -37,6 +37,9 @@ static void open_and_poll(uint64_t value)
 int main(void)
 {
     done(ospreyscreen_lay(table, sizeof table, STATIONS, ITEMS, 500, pairs, sizeof pairs));
+    for (uint64_t station = 0; station < STATIONS; station++) {
+        done(ospreyscreen_link(table, sizeof table, station, OSPREYSCREEN_LINK_ON));
+    }
     open_and_poll(510);
     done(ospreyscreen_put(table, sizeof table, 0, OSPREYSCREEN_PUT_DATA));
     done(ospreyscreen_put(table, sizeof table, 1, OSPREYSCREEN_PUT_DATA));

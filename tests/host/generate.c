@@ -102,12 +102,14 @@ call generate_any_call(generator *g, unsigned n, unsigned m)
 
 /* ---- Calls that fit where the round stands ---- */
 
-/* A station returns; with none off, the call is a reach. */
+/* A station returns; with none off, and now and then with none on, the call is
+ * a reach. */
 static call return_station(generator *g, const outlook *o)
 {
     rng *r = &g->source;
-    return o->off == 0 ? call_reach(rng_below(r, o->m))
-                       : call_link(station_of(r, o->off), OSPREYSCREEN_LINK_ON);
+    bool asks = o->off == 0 || (o->on == 0 && rng_one_in(r, 5));
+    return asks ? call_reach(rng_below(r, o->m))
+                : call_link(station_of(r, o->off), OSPREYSCREEN_LINK_ON);
 }
 
 static void choose_write_sets(generator *g)
@@ -221,6 +223,14 @@ static call next_step(generator *g, const outlook *o)
                                                : next_put_or_commit(g, o, found);
 }
 
+/* Links one of the stations, which are off since the lay. */
+static call first_link(generator *g, unsigned stations)
+{
+    unsigned station = station_of(&g->source, stations);
+    g->to_link &= ~(1u << station);
+    return call_link(station, OSPREYSCREEN_LINK_ON);
+}
+
 call generate_call(generator *g)
 {
     rng *r = &g->source;
@@ -229,6 +239,9 @@ call generate_call(generator *g)
 
     if (!outlook_read(&o, table->bytes, table->len)) {
         return generate_any_call(g, OSPREYSCREEN_STATIONS_MAX, OSPREYSCREEN_ITEMS_MAX);
+    }
+    if ((g->to_link & o.off) != 0 && !rng_one_in(r, 12)) {
+        return first_link(g, g->to_link & o.off);
     }
     if (rng_one_in(r, g->drops)) {
         return o.on == 0 || rng_one_in(r, 10)
@@ -255,9 +268,30 @@ call generate_call(generator *g)
     }
 }
 
+/* The stations that are linked first after a lay: all in most cases, else some
+ * or none. The others are linked late, as stations return. */
+static unsigned choose_links(rng *r, uint64_t n)
+{
+    unsigned all = all_stations((unsigned)n);
+
+    switch (rng_below(r, 8)) {
+    case 0:
+        return 0;
+    case 1:
+        return part_of(r, all);
+    case 2:
+        return all & ~(1u << rng_below(r, n));
+    default:
+        return all;
+    }
+}
+
 void generate_step(generator *g, const call *c)
 {
     g->last = record_call(&g->to, c, draw_place(&g->source)).number;
+    if (c->code == OSPREYSCREEN_LAY && g->last == OSPREYSCREEN_DONE) {
+        g->to_link = choose_links(&g->source, c->numbers[ARGUMENT_N]);
+    }
 }
 
 call generate_lay(generator *g, unsigned n, unsigned m)
@@ -429,7 +463,7 @@ static void disturb(generator *g, disturbance how, unsigned n, unsigned m)
  * longer, the more stations a round has to go to. */
 static uint64_t choose_calls(rng *r, unsigned n, unsigned m)
 {
-    uint64_t most = rng_one_in(r, 20) && n * m < 100 ? 300 : rng_one_in(r, 3) ? 3 : 40;
+    uint64_t most = rng_one_in(r, 20) && n * m < 100 ? 300 : rng_one_in(r, 3) ? 3 : 50;
     return 1 + rng_below(r, most * (3 + n));
 }
 
@@ -532,7 +566,7 @@ generator generator_make(list *into)
 
 void generate_list(generator *g, uint64_t seed, uint64_t number)
 {
-    static const unsigned drops[] = {4, 15, 30, 100};
+    static const unsigned drops[] = {5, 15, 30, 100};
     rng *r = &g->source;
     unsigned n;
     unsigned m;

@@ -1,8 +1,10 @@
 /*
- * Random lists for the differential test. Most calls take the open round a
- * step towards its commit; drops, returns, abandoned rounds, changes that
- * move the quorums away and calls with arguments out of range come between.
- * Some lists have their tables damaged, tied or raised by hand on the way.
+ * Random lists for the differential test. After a lay most stations are
+ * linked at once, the others when a station returns or a round needs them.
+ * Most calls take the open round a step towards its commit; drops, returns,
+ * abandoned rounds, changes that move the quorums away and calls with
+ * arguments out of range come between. Some lists have their tables damaged,
+ * tied or raised by hand on the way.
  */
 #ifndef GENERATE_H
 #define GENERATE_H
@@ -18,6 +20,7 @@ typedef struct {
     unsigned configuration_choice;
     /* How often stations drop: once in so many calls. */
     unsigned drops;
+    unsigned to_link; /* the stations that are linked first after the lay */
     uint64_t last; /* the number of the last reply */
     /* The bytes of the last call's configuration. */
     uint8_t config[CONFIGURATION_ROOM];
@@ -39,7 +42,8 @@ call generate_call(generator *g);
 /* Any call with any arguments, on a table of n stations and m items. */
 call generate_any_call(generator *g, unsigned n, unsigned m);
 
-/* Records a call; it is lent its configuration at any place. */
+/* Records a call; it is lent its configuration at any place. After a lay that
+ * replies 0 the next calls are links, most likely. */
 void generate_step(generator *g, const call *c);
 
 /* The random numbers of a list of a run. */

@@ -4,9 +4,9 @@
  *   random_frames [--lines N] [--seed S]
  *
  * The lines are calls on tables of all sizes, as the differential test chooses
- * them: a lay, then rounds, with drops, returns and calls of any content
- * between. One line in fifteen is damaged, and the last one may lack its end.
- * Before the first lay every call is made on the empty table.
+ * them: a lay, links, then rounds, with drops, returns, late links and calls of
+ * any content between. One line in fifteen is damaged, and the last one may
+ * lack its end. Before the first lay every call is made on the empty table.
  */
 #include "generate.h"
 #include "options.h"
@@ -167,7 +167,7 @@ static uint64_t write_before_lay(generator *g, uint64_t lines)
 static uint64_t write_table_lines(generator *g, uint64_t lines)
 {
     call c = generate_any_lay(g);
-    uint64_t most = 1 + rng_below(&g->source, 50 * (3 + c.numbers[ARGUMENT_N]));
+    uint64_t most = 1 + rng_below(&g->source, 70 * (3 + c.numbers[ARGUMENT_N]));
     uint64_t written = 0;
 
     while (written < lines && written < most) {

@@ -82,7 +82,7 @@ static ospreyscreen_reply make_call(const call *c)
     if (c->config != NULL) {
         memcpy(config, c->config, c->config_len);
     }
-    sight seen = tally_look(c, &(loan){table, table_length}, table_length != 0);
+    sight seen = tally_look(&counts, c, &(loan){table, table_length}, table_length != 0);
     call_make(&REFERENCE, c, lent);
     tally_call(&counts, &seen, c, &reply);
     if (c->code == OSPREYSCREEN_LAY && reply.number == OSPREYSCREEN_DONE) {

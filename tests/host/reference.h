@@ -1,7 +1,8 @@
 /*
- * An independent implementation of document 01, written from the paper for
- * reading and not for speed. It is what the library is compared with. From
- * the library it has the header alone, whose numbers are thereby tested too.
+ * An independent implementation of document 01 with the requests of document
+ * 02 that change its calls, written from the papers for reading and not for
+ * speed. It is what the library is compared with. From the library it has the
+ * header alone, whose numbers are thereby tested too.
  */
 #ifndef REFERENCE_H
 #define REFERENCE_H

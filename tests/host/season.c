@@ -28,7 +28,7 @@ typedef struct {
     uint64_t up;      /* steps between its drops, on average */
     uint64_t outages; /* once in so many drops it stays off for long, */
     uint64_t outage;  /* up to so many steps */
-    uint64_t turns;   /* the step at which it goes or returns */
+    uint64_t turns;   /* the step at which it is linked, goes or returns */
 } line;
 
 /* The order in which a task takes stations. */
@@ -73,9 +73,25 @@ static outlook look(const season *s)
     return o;
 }
 
+/* The stations of a new table are linked when their time comes: all at once or
+ * one by one, and some late, when tasks have long begun. */
+static void plan_first_links(season *s)
+{
+    uint64_t span = rng_one_in(s->r, 2) ? 1 : 4 * look(s).n;
+
+    for (unsigned station = 0; station < OSPREYSCREEN_STATIONS_MAX; station++) {
+        line *l = &s->lines[station];
+        l->turns = now(s) + rng_below(s->r, rng_one_in(s->r, 10) ? l->outage : span);
+    }
+}
+
 static ospreyscreen_reply record(season *s, call c)
 {
-    return record_call(&s->g->to, &c, draw_place(s->r));
+    ospreyscreen_reply reply = record_call(&s->g->to, &c, draw_place(s->r));
+    if (c.code == OSPREYSCREEN_LAY && reply.number == OSPREYSCREEN_DONE) {
+        plan_first_links(s);
+    }
+    return reply;
 }
 
 /* The first item is used most, so that its counters grow. */
@@ -624,7 +640,6 @@ static line draw_line(rng *r, const weather *w, unsigned n)
 
     l.up = fair / 2 + rng_below(r, fair);
     l.outages = 1 + rng_below(r, 2 * w->outages);
-    l.turns = span_on(r, &l);
     return l;
 }
 

@@ -1,7 +1,8 @@
 /*
- * Seasons of one house: its stations drop and return with old copies,
- * installers change its groups, firmware gives rounds up and makes mistakes.
- * No byte is set by hand, so every finished round is held to the book.
+ * Seasons of one house: its stations are linked one by one, drop and return
+ * with old copies, installers change its groups, firmware gives rounds up and
+ * makes mistakes. No byte is set by hand, so every finished round is held to
+ * the book.
  */
 #ifndef SEASON_H
 #define SEASON_H

@@ -34,6 +34,12 @@ static const meter_row METERS[MET_COUNT] = {
     [MET_DROP] = {"drops", ALL},
     [MET_DROP_OF_A_PUT] = {"drops that took back a put", ALL},
     [MET_RETURN] = {"returns", ALL},
+    [MET_FIRST_LINK] = {"first links after a lay", ALL},
+    [MET_UNLINKED_REACH] = {"reaches with no station linked since the lay", ALL},
+    [MET_UNLINKED_POLL] = {"polls refused at a station not linked since the lay", ALL},
+    [MET_UNLINKED_PUT] = {"puts refused at a station not linked since the lay", ALL},
+    [MET_UNLINKED_COMMIT] = {"rounds finished with a station not linked since the lay", ALL},
+    [MET_LATE_POLL] = {"first polls of a station first linked in the same round", ALL},
     [MET_SHORT_WRITE] = {"short writes", ALL},
     [MET_SHORT_DATA] = {"changes short of data puts alone", ALL},
     [MET_SHORT_CONFIGURATION] = {"changes short of configuration puts alone", ALL},
@@ -133,20 +139,48 @@ static bool stale(const outlook *o, const call *c)
     return get_number(copy + COUNTER_VERSION, 8) < get_number(newest + COUNTER_VERSION, 8);
 }
 
-static void look_at_link(sight *s, const outlook *o, const call *c)
+/* The set of the call's station; none if the table has no such station. */
+static unsigned station_named(const outlook *o, const call *c)
 {
     uint64_t station = c->numbers[ARGUMENT_STATION];
+    return station < o->n ? 1u << station : 0;
+}
+
+static void look_at_link(sight *s, const outlook *o, const call *c)
+{
     bool goes_off = c->numbers[ARGUMENT_STATE] == OSPREYSCREEN_LINK_OFF;
-    unsigned one = station < o->n ? 1u << station : 0;
+    unsigned one = station_named(o, c);
 
     s->met[MET_DROP] = goes_off && (o->on & one) != 0;
     s->met[MET_DROP_OF_A_PUT] = goes_off && ((o->data_puts | o->configuration_puts) & one) != 0;
     s->met[MET_RETURN] = !goes_off && (o->off & one) != 0;
 }
 
-sight tally_look(const call *c, const loan *table, bool covered)
+/* Stations not linked since the lay, and those first linked in this round. */
+static void look_at_first_links(sight *s, const tally *t, const outlook *o, const call *c)
 {
-    sight s = {0};
+    unsigned one = station_named(o, c);
+
+    s->unlinked = (t->unlinked & one) != 0;
+    s->met[MET_FIRST_LINK] = s->met[MET_RETURN] && s->unlinked;
+    s->met[MET_RETURN] &= !s->unlinked;
+    s->met[MET_UNLINKED_REACH] =
+        c->code == OSPREYSCREEN_REACH && t->unlinked == all_stations(o->n);
+    s->met[MET_UNLINKED_COMMIT] = c->code == OSPREYSCREEN_COMMIT && t->unlinked != 0;
+    s->met[MET_LATE_POLL] = c->code == OSPREYSCREEN_POLL && (t->late & ~o->polled & one) != 0;
+}
+
+/* The highest generation of the item at copies that differ. */
+static bool reach_tie(const outlook *o, const call *c)
+{
+    uint64_t item = c->numbers[ARGUMENT_ITEM];
+    return item < o->m &&
+           outlook_tie(o, (unsigned)item, all_stations(o->n), COUNTER_GENERATION);
+}
+
+sight tally_look(const tally *t, const call *c, const loan *table, bool covered)
+{
+    sight s = {.covered = covered};
     outlook o;
 
     s.broken = covered ? 0 : ref_broken(table->bytes, table->len);
@@ -169,12 +203,13 @@ sight tally_look(const call *c, const loan *table, bool covered)
         look_at_link(&s, &o, c);
         break;
     case OSPREYSCREEN_REACH:
-        s.met[MET_REACH_TIE] = !covered && c->numbers[ARGUMENT_ITEM] < o.m &&
-                               outlook_tie(&o, (unsigned)c->numbers[ARGUMENT_ITEM],
-                                           all_stations(o.n), COUNTER_GENERATION);
+        s.met[MET_REACH_TIE] = !covered && reach_tie(&o, c);
         break;
     default:
         break;
+    }
+    if (covered) {
+        look_at_first_links(&s, t, &o, c);
     }
     return s;
 }
@@ -219,8 +254,29 @@ static void count_refused(tally *t, const sight *s, const call *c, uint64_t numb
         t->met[MET_SPENT_VERSION] += write;
         t->met[MET_SPENT_GENERATION] += !write;
     }
+    if (number == OSPREYSCREEN_OFF_THE_BUS) {
+        t->met[MET_UNLINKED_POLL] += s->unlinked && c->code == OSPREYSCREEN_POLL;
+        t->met[MET_UNLINKED_PUT] += s->unlinked && c->code == OSPREYSCREEN_PUT;
+    }
     if (number == OSPREYSCREEN_UNSOUND && c->code != OSPREYSCREEN_LAY) {
         count_alone(t, s->broken);
+    }
+}
+
+/* Keeps which stations are not linked since the lay, and which were first
+ * linked since the last opening. The call replied 0. */
+static void follow_links(tally *t, const sight *s, const call *c)
+{
+    if (c->code == OSPREYSCREEN_LAY) {
+        t->unlinked = all_stations((unsigned)c->numbers[ARGUMENT_N]);
+    }
+    if (shape_of(c)->opens != OSPREYSCREEN_ROUND_NONE) {
+        t->late = 0;
+    }
+    if (s->met[MET_FIRST_LINK]) {
+        unsigned one = 1u << c->numbers[ARGUMENT_STATION];
+        t->unlinked &= ~one;
+        t->late |= one;
     }
 }
 
@@ -230,8 +286,13 @@ void tally_call(tally *t, const sight *s, const call *c, const ospreyscreen_repl
     t->replies[c->code][reply->number]++;
     t->met[MET_ODD_CONFIGURATION] += call_has(shape_of(c), ARGUMENT_CONFIGURATION) &&
                                      c->config_len != OSPREYSCREEN_CONFIGURATION_LENGTH;
+    if (!s->covered) {
+        t->unlinked = 0;
+        t->late = 0;
+    }
     if (reply->number == OSPREYSCREEN_DONE) {
         count_done(t, s, c, reply);
+        follow_links(t, s, c);
     } else {
         count_refused(t, s, c, reply->number);
     }

@@ -27,6 +27,12 @@ typedef enum {
     MET_DROP,
     MET_DROP_OF_A_PUT,
     MET_RETURN,
+    MET_FIRST_LINK,
+    MET_UNLINKED_REACH,
+    MET_UNLINKED_POLL,
+    MET_UNLINKED_PUT,
+    MET_UNLINKED_COMMIT,
+    MET_LATE_POLL,
     MET_SHORT_WRITE,
     MET_SHORT_DATA,
     MET_SHORT_CONFIGURATION,
@@ -47,6 +53,9 @@ typedef struct {
     uint64_t commits[ROUND_KINDS][STATION_COUNTS]; /* that finished, by kind and n */
     uint64_t alone[BROKEN_CLAUSES]; /* calls on a table that breaks this clause and no other */
     uint64_t met[MET_COUNT];
+    /* Followed from call to call while the book covers the list. */
+    unsigned unlinked; /* the stations not linked since the lay */
+    unsigned late;     /* those first linked since the last opening */
 } tally;
 
 /* What there is to see in a call before it is made, by the table. */
@@ -57,11 +66,13 @@ typedef struct {
     bool met[MET_COUNT]; /* if the call replies 0 */
     bool lacks_data;
     bool lacks_configuration;
+    bool unlinked; /* its station is not linked since the lay */
+    bool covered;
 } sight;
 
 /* Looks at the call and the table that it is about to be made on. One that
  * the book covers is sound and has no ties. */
-sight tally_look(const call *c, const loan *table, bool covered);
+sight tally_look(const tally *t, const call *c, const loan *table, bool covered);
 
 /* Counts the call, with what was seen before it. */
 void tally_call(tally *t, const sight *s, const call *c, const ospreyscreen_reply *reply);

@@ -68,7 +68,7 @@ def reaches(n, words, drops):
     script, choices = [], list(itertools.combinations(range(n), drops))
     for choice in choices:
         script.append(f"lay {n} 1 0 {words}")
-        script += [f"link {station} off" for station in choice]
+        script += [f"link {station} on" for station in range(n) if station not in choice]
         script.append("reach 0")
     replies = [reply for reply in replies_to(script) if reply.startswith("reach: done")]
     assert len(replies) == len(choices), f"not valid: {words}"

@@ -17,16 +17,22 @@ EXAMPLE = pathlib.Path(__file__).resolve().parents[2] / "examples" / "first-read
 
 PAIRS = "030005000600" + "0" * 20
 LAY = "010301F401000000000000" + PAIRS + PAIRS
+LINKS = ["090001", "090101", "090201"]
 
-# The frame case of document 01, then a write of 510 through stations 0 and 1
-# and a read through stations 1 and 2.
+READ_500 = "0700F40100000000000000000000000000000000000000000000"
+
+# The frame case of document 01 after a link of each station, then a write of
+# 510 through stations 0 and 1 and a read through stations 1 and 2.
 EXAMPLE_REPLIES = [
     "01" + "0" * 50,
+    "09" + "0" * 50,
+    "09" + "0" * 50,
+    "09" + "0" * 50,
     "0200000000000000000000000000000000000000000000000000",
     "0502000000000000000000000000000000000000000000000000",
     "0500000000000000000000000000000000000000000000000000",
     "0500010000000000000000000000000000000000000000000000",
-    "0700F40100000000000000000000000000000000000000000000",
+    READ_500,
     "0300" + "0" * 48,
     "0500" + "0" * 48,
     "050001" + "0" * 46,
@@ -53,6 +59,10 @@ FALSE_LINES = [
 # One frame of each call but lay.
 OTHER_CALLS = ["0200", "0300" + "0" * 16, "0400" + PAIRS + PAIRS, "0500", "060001", "07", "08",
                "090001", "0A00"]
+
+
+def done(code, first=0):
+    return f"{code}00{first:02X}" + "0" * 46
 
 
 def refused(code, number):
@@ -113,18 +123,33 @@ class Runner(unittest.TestCase):
         self.assertEqual(got, unsound + [refused("01", 2)] + unsound)
 
     def test_refused_lay_keeps_the_table(self):
+        """With its round, and with station 1 alone off."""
         too_many = "0111" + LAY[4:]
         no_items = LAY[:4] + "00" + LAY[6:]
         false = LAY[:22] + "0" * 64
-        got = replies([LAY, "0200", too_many, no_items, false, "0500", "0502", "07"])
-        self.assertEqual(got[2:5], [refused("01", 2), refused("01", 2), refused("01", 3)])
-        self.assertEqual(got[7], EXAMPLE_REPLIES[5])
+        got = replies([LAY, LINKS[0], LINKS[2], "0200", too_many, no_items, false, "0500", "0501", "0502", "07"])
+        self.assertEqual(got[4:7], [refused("01", 2), refused("01", 2), refused("01", 3)])
+        self.assertEqual(got[7:], [done("05"), refused("05", 6), done("05", 1), READ_500])
+
+    def test_new_stations_are_off_until_their_link(self):
+        off = [refused("05", 6), refused("06", 6)]
+        got = replies([LAY, "0A00", "0200", "0500", "060001", "0501", "060102", "0502", "060201"])
+        self.assertEqual(got, [done("01"), done("0A"), done("02"), *off, *off, *off])
+        got = replies([LAY, "0200", LINKS[1], "0500", "0501", "0502", "0A00", LINKS[2], "0500", "0502", "0A00", "07"])
+        self.assertEqual(got[2:7], [done("09"), refused("05", 6), done("05"), refused("05", 6), done("0A")])
+        self.assertEqual(got[7:], [done("09"), refused("05", 6), done("05", 1), done("0A", 3), READ_500])
+
+    def test_another_lay_takes_all_off_again(self):
+        got = replies([LAY, *LINKS, "0A00", "0200", "0500", LAY, "0A00", "0500", "0200", "0500", "0501", "0502"])
+        self.assertEqual(got[4:7], [done("0A", 3), done("02"), done("05")])
+        self.assertEqual(got[7:], [done("01"), done("0A"), refused("05", 5), done("02"), *3 * [refused("05", 6)]])
 
     def test_largest_table(self):
         lay = "0110200A00000000000000" + "FFFF" + "0" * 28 + "FFFF" + "0" * 28
-        got = replies([lay, "021F", "0200", "022000", "0220", "0900FF", "0910FF"])
-        self.assertEqual(got, ["01" + "0" * 50, "02" + "0" * 50, refused("02", 4), refused("02", 12),
-                               refused("02", 2), refused("09", 2), refused("09", 2)])
+        got = replies([lay, "021F", "0200", "022000", "0220", "0900FF", "0910FF", "050F", "090F01", "050F", "050E"])
+        self.assertEqual(got, [done("01"), done("02"), refused("02", 4), refused("02", 12), refused("02", 2),
+                               refused("09", 2), refused("09", 2), refused("05", 6), done("09"), done("05"),
+                               refused("05", 6)])
 
     def test_replies_come_at_once(self):
         with subprocess.Popen([RUNNER], stdin=subprocess.PIPE, stdout=subprocess.PIPE,

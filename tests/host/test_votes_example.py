@@ -13,6 +13,8 @@ import unittest
 PROGRAM, RUNNER = "", ""
 REFUSED, NOT_READ = 1, 2
 LAID = "01" + "0" * 50
+LINKED = "09" + "0" * 50
+REACHED = "0A0003" + "0" * 46
 
 # Sheets that are done, and the read and write sets: stations and votes.
 DONE = {
@@ -69,6 +71,12 @@ def run(words):
     return subprocess.run([PROGRAM, *words], capture_output=True, text=True, check=False)
 
 
+def frames_in(lines):
+    """The configuration's digits, the lay frame, and the frames of the links."""
+    lay, = (i for i, line in enumerate(lines) if line.startswith("the frame that lays"))
+    return lines[lay - 1], lines[lay + 1], lines[lay + 3:]
+
+
 def sets_in(lines):
     """The sets of the read side and of the write side, without their digits."""
     sides = []
@@ -88,11 +96,13 @@ class VotesExample(unittest.TestCase):
                 lines = result.stdout.splitlines()
                 self.assertEqual((result.returncode, result.stderr), (0, ""))
                 self.assertEqual(sets_in(lines), sets)
-                frame, digits = lines[-1], lines[-3]
+                digits, lay, links = frames_in(lines)
                 self.assertEqual(len(digits), 64)
-                self.assertTrue(frame.endswith(digits))
-                replies = subprocess.run([RUNNER], input=frame + "\n", capture_output=True, text=True, check=True)
-                self.assertEqual(replies.stdout, LAID + "\n")
+                self.assertTrue(lay.endswith(digits))
+                self.assertEqual(len(links), len(words[0].split()))
+                script = "\n".join([lay, *links, "0A00"])
+                replies = subprocess.run([RUNNER], input=script, capture_output=True, text=True, check=True)
+                self.assertEqual(replies.stdout.split(), [LAID, *[LINKED] * len(links), REACHED])
 
     def test_refusals(self):
         for words, said in REFUSALS.items():

@@ -58,7 +58,7 @@ static const char *make_call(trial *t, const step *s, tally *counts)
     run_lend(&t->tested, s);
     sight seen = {0};
     if (counts != NULL) {
-        seen = tally_look(c, &t->reference.lent[LENT_TABLE], t->covered);
+        seen = tally_look(counts, c, &t->reference.lent[LENT_TABLE], t->covered);
     }
     bool placed = run_call(&t->reference, c);
     t->want = run_reply(&t->reference);

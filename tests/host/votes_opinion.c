@@ -80,6 +80,37 @@ typedef struct {
     uint8_t table[OSPREYSCREEN_TABLE_LENGTH(OSPREYSCREEN_STATIONS_MAX, 1)];
 } house;
 
+static bool reaches(const house *h, uint64_t figure)
+{
+    ospreyscreen_reply reply = h->with->reach(h->table, h->len, 0);
+    return reply.number == OSPREYSCREEN_DONE && reply.first == figure;
+}
+
+/* Whether a table as it is laid has every station off: nothing can be reached,
+ * and no station answers a poll. */
+static bool starts_off(house *h, unsigned n)
+{
+    bool off = reaches(h, OSPREYSCREEN_REACH_NOTHING) &&
+               h->with->open_read(h->table, h->len, 0).number == OSPREYSCREEN_DONE;
+    for (unsigned station = 0; station < n; station++) {
+        off &= h->with->poll(h->table, h->len, station).number == OSPREYSCREEN_OFF_THE_BUS;
+    }
+    return off && h->with->abandon(h->table, h->len).number == OSPREYSCREEN_DONE;
+}
+
+/* Links the set's stations, which can read and write then. */
+static bool links(house *h, unsigned set)
+{
+    for (; set != 0; set &= set - 1) {
+        unsigned station = (unsigned)__builtin_ctz(set);
+        uint64_t linked = h->with->link(h->table, h->len, station, OSPREYSCREEN_LINK_ON).number;
+        if (linked != OSPREYSCREEN_DONE) {
+            return false;
+        }
+    }
+    return reaches(h, OSPREYSCREEN_REACH_READ_AND_WRITE);
+}
+
 /* Polls the set's stations; the last one makes the round heard, and none
  * before it. */
 static bool polls(house *h, unsigned set)
@@ -116,8 +147,8 @@ static bool commits(house *h)
            reply.third == 0;
 }
 
-/* Lays a table, writes by one read set and one write set, and reads by another
- * read set; gives what is wrong. */
+/* Lays a table, links the stations of the three sets, writes by one read set
+ * and one write set, and reads by another read set; gives what is wrong. */
 static const char *house_wrong(const implementation *with, const sheet *s, const uint8_t *config,
                                unsigned polled, unsigned put, unsigned polled_later)
 {
@@ -127,6 +158,12 @@ static const char *house_wrong(const implementation *with, const sheet *s, const
 
     if (laid != OSPREYSCREEN_DONE) {
         return "lay refuses the configuration";
+    }
+    if (!starts_off(&h, (unsigned)s->votes_len)) {
+        return "a station of a new table is on the bus";
+    }
+    if (!links(&h, polled | put | polled_later)) {
+        return "linked stations do not reach what they should";
     }
     if (with->open_write(h.table, h.len, 0, VALUE).number != OSPREYSCREEN_DONE ||
         !polls(&h, polled) || !puts_at(&h, put) || !commits(&h)) {
