@@ -10,6 +10,7 @@
  */
 #include "generate.h"
 #include "options.h"
+#include "reference.h"
 
 #include <stdio.h>
 #include <stdlib.h>
@@ -114,16 +115,34 @@ static void write_line(rng *r, const line *l, bool last)
 
 /* ---- Calls ---- */
 
-/* Records the call. The runner lends a lay the length that it needs, so a
- * call that lays another table starts a list on such a one. */
-static void follow(generator *g, const call *c)
+/* The length that the lay needs, if it is done with that length; else 0. */
+static size_t laid_length(const call *c)
 {
+    static uint8_t scratch[OSPREYSCREEN_TABLE_LENGTH(OSPREYSCREEN_STATIONS_MAX,
+                                                     OSPREYSCREEN_ITEMS_MAX)];
     uint64_t n = c->numbers[ARGUMENT_N];
     uint64_t m = c->numbers[ARGUMENT_M];
-    bool listed = n >= 1 && n <= OSPREYSCREEN_STATIONS_MAX && m >= 1 && m <= OSPREYSCREEN_ITEMS_MAX;
 
-    if (c->code == OSPREYSCREEN_LAY && listed) {
-        record_table(&g->to, OSPREYSCREEN_TABLE_LENGTH(n, m), GUARD_AFTER, false);
+    if (n > OSPREYSCREEN_STATIONS_MAX || m > OSPREYSCREEN_ITEMS_MAX) {
+        return 0;
+    }
+    size_t length = OSPREYSCREEN_TABLE_LENGTH(n, m);
+    ospreyscreen_reply reply = ref_lay(scratch, length, n, m, c->numbers[ARGUMENT_VALUE], c->config,
+                                       c->config_len);
+    return reply.number == OSPREYSCREEN_DONE ? length : 0;
+}
+
+/* Records the call. The runner lends a lay the length that it needs, so one
+ * that is done starts a list on a table of that length. One that is refused
+ * keeps the table, and is not recorded. */
+static void follow(generator *g, const call *c)
+{
+    if (c->code == OSPREYSCREEN_LAY) {
+        size_t length = laid_length(c);
+        if (length == 0) {
+            return;
+        }
+        record_table(&g->to, length, GUARD_AFTER, false);
     }
     generate_step(g, c);
 }
