@@ -1,4 +1,4 @@
--- Updates of the head that change nothing: those made a second time, and those that write what stands there.
+-- Updates of the head that change nothing: those made a second time, and those that write what stands there; and an off set written over another.
 use mathlib.Core.Path.{_≡_, sym, _∙_}
 use mathlib.Core.List.{List, _++_}
 use Prim.Native.Nat.{ℕ, _+_, _≤_}

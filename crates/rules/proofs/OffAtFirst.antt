@@ -161,10 +161,10 @@ module _ (t : Table) (on : ℕ → Bool) (f : Settled t on) where
       rw (sound-number (view t) (put s sort) refl asked, there, a-round k .1 busy, f .offBut s l)
       (six (on s) _ (not-at-put (not (heard (view t))) (wrongPut k sort) (spentAtPut (view t) k sort)))
 
-  -- where none is on, no quorum lies within the stations on the bus
   abbrev NoneOn : Type 0
   NoneOn = (s : ℕ) → s < view t .n → on s ≡ false
 
+  -- where none is on, no quorum lies within the stations on the bus
   none-held : NoneOn → (side : ℕ → ℕ) (set : ℕ) → ((s : ℕ) → member set s ≡ (ltb s (view t .n) && not (member (view t .off) s))) → QuorumIn side set → ⊥
   none-held none-on side set is-on (k, l, (u, inside)) =
       let x = promise .used-member (side k) .0 u in
