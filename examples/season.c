@@ -7,8 +7,9 @@
  * with a plain record that this program keeps for itself.
  *
  * The parts to copy are wire, which links the stations, advice_on, which has a
- * branch for every number that a call can give, and run_round, which brings a
- * round to its end.
+ * branch for every number that a call can give, run_round, which brings a
+ * round to its end, and retire, which asks for reach before a station goes for
+ * good.
  */
 #include "ospreyscreen.h"
 
@@ -391,11 +392,27 @@ static bool change_towards(unsigned phase)
     return all;
 }
 
-/* Once no item has the station in a set, it goes off for good. */
-static void retire(void)
+/* Whether the stations on the bus can read and write every item. */
+static bool all_in_reach(void)
+{
+    for (uint64_t item = 0; item < ITEMS; item++) {
+        if (reach_of(item) != OSPREYSCREEN_REACH_READ_AND_WRITE) {
+            return false;
+        }
+    }
+    return true;
+}
+
+/* No item has the station in a set any more. It goes off, and for good if the
+ * others do without it: reach judges by what they know. Else it may return, as
+ * after a drop, and is tried again the next day. */
+static void retire(int day)
 {
     link_station(RETIRED, OSPREYSCREEN_LINK_OFF);
-    wired = RETIRED;
+    if (all_in_reach()) {
+        wired = RETIRED;
+        printf("day %d, station %d retired: reach 3 for every item\n", day, RETIRED);
+    }
 }
 
 static void write_and_read(int day)
@@ -423,8 +440,8 @@ static void run_season(void)
         if (day == INTERRUPTED_DAY) {
             leave_a_round_open();
         }
-        if (change_towards(phase_of_day(day)) && day >= RETIRE_DAY) {
-            retire();
+        if (change_towards(phase_of_day(day)) && day >= RETIRE_DAY && wired > RETIRED) {
+            retire(day);
         }
         write_and_read(day);
     }

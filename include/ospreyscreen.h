@@ -39,7 +39,7 @@ extern "C" {
 
 /* The version of this header and of the library that belongs to it. */
 #define OSPREYSCREEN_VERSION_MAJOR 0
-#define OSPREYSCREEN_VERSION_MINOR 3
+#define OSPREYSCREEN_VERSION_MINOR 4
 #define OSPREYSCREEN_VERSION_PATCH 0
 #define OSPREYSCREEN_VERSION_STRING                                                                \
     OSPREYSCREEN_DOTTED_(OSPREYSCREEN_VERSION_MAJOR, OSPREYSCREEN_VERSION_MINOR,                   \
@@ -118,7 +118,7 @@ enum ospreyscreen_state {
     OSPREYSCREEN_LINK_ON = 1
 };
 
-/* What the stations on the bus can do with an item: reach's figure. */
+/* What a round that polls every station on the bus can do: reach's figure. */
 enum ospreyscreen_reach {
     OSPREYSCREEN_REACH_NOTHING = 0,
     OSPREYSCREEN_REACH_READ = 1,
@@ -231,11 +231,20 @@ ospreyscreen_reply ospreyscreen_abandon(uint8_t *table, size_t len);
 ospreyscreen_reply ospreyscreen_link(uint8_t *table, size_t len, uint64_t station, uint64_t state);
 
 /*
- * Tells what the stations on the bus can do with the item, by the
- * configuration of the highest generation among all its copies, those of
- * stations that are off too. Changes no byte.
- * Figures: first is 1 if they hold one of its read sets, 3 if also one of its
- * write sets, else 0.
+ * Tells what the stations on the bus can do with the item, judged by what
+ * polling them all finds: the configuration of the highest generation among
+ * their copies, the lowest station's on equal generations. The copies of
+ * stations that are off do not count, nor does the round that is open. Changes
+ * no byte.
+ * Figures: first is
+ * - 1 if they hold one of its read sets: a read that polls them all is done;
+ * - 3 if also one of its write sets: a write that polls them all and puts data
+ *   at them all is done too, unless the version found is 2^64 - 1;
+ * - else 0, as with nobody on the bus: a round that polls them all is unheard.
+ * On a table that only these calls have changed since a lay that was done, 0
+ * means more: no set of stations on the bus is heard, so a round opened on the
+ * item now cannot finish until a station comes on. Only a round that is open
+ * already may, by stations that it polled before they went off.
  * Refusals: 1 table, 2 item.
  */
 ospreyscreen_reply ospreyscreen_reach(const uint8_t *table, size_t len, uint64_t item);

@@ -1,11 +1,10 @@
 -- The figures of poll and reach, from what the code's searches found.
-use mathlib.Core.Path.{_≡_, ap, _∙_}
+use mathlib.Core.Path.{_≡_, refl, ap, _∙_}
 use mathlib.Core.Bool.{Bool, true, cond}
-use mathlib.Core.List.{List, []}
+use mathlib.Core.List.{List}
 use Prim.Native.Nat.{ℕ, _<_}
-use native.Mathlib.Omega.{arith}
 use Rattle.quorum.specs.Sets.{full, minus}
-use Rattle.quorum.proofs.Promise.{promise}
+use Rattle.quorum.specs.Configurations.{holdsRead, holdsWrite}
 use Rattle.layout.specs.Layout.{address}
 use Rattle.layout.specs.Fields.{stations, items, offSet, roundOf, copyFrom}
 use Rattle.layout.specs.Newest.{newest, byGeneration, hears}
@@ -15,9 +14,9 @@ use Rattle.layout.specs.View.{view}
 use Rattle.table.specs.Search.{asOption, InTable, copiesOf, generationsOf}
 use Rattle.table.specs.declared.newest.Station.{Station}
 use Rattle.table.specs.declared.newest.Station.the-variants.{At, Nobody}
-use Rattle.rounds.proofs.Hearing.{items-in-table}
+use Rattle.rounds.proofs.Hearing.{items-in-table, nobody-unheard}
 use Rattle.rules.specs.Calls.{poll}
-use Rattle.rules.specs.Figures.{oneFigure, reachOf, reachFigure, figuresOf}
+use Rattle.rules.specs.Figures.{oneFigure, onBus, reachFigure, figuresOf}
 use Rattle.rules.specs.Reply.{answer}
 use Rattle.rules.specs.declared.Reply.{Reply}
 
@@ -34,23 +33,28 @@ unfolding figuresOf view
 poll-figure t s e f g h q =
     let own = rw (e, f, g) at h in ap figureReply (q ∙ ap (λ b. cond b 1 0) own)
 
--- ---- reach: the newest configuration among all copies of an item
+-- ---- reach: what polling the stations on the bus finds
 -- the copies lie in the table, by the stations that were read
 pub copies-in-table : (t : List ℕ) → sound t ≡ true → {n i : ℕ} → n ≡ stations t → i < items t → InTable t n i
 copies-in-table t e a l = rw a (items-in-table t e _ l)
 
-module _ (t : List ℕ) (i : ℕ) (found : Station) {n every : ℕ} (a : n ≡ stations t) (q : every ≡ full n)
-    (e : asOption found ≡ newest (generationsOf t n i) every n) where
-  all-searched : asOption found ≡ newest (generationsOf t (stations t) i) (full (stations t)) (stations t)
-  all-searched = rw (q, a) at e
+module _ (t : List ℕ) (i : ℕ) (found : Station) {n every off on : ℕ} (a : n ≡ stations t) (q : every ≡ full n) (o : off ≡ offSet t)
+    (m : on ≡ minus every off) (e : asOption found ≡ newest (generationsOf t n i) on n) where
+  on-bus : on ≡ onBus (view t)
+  unfolding view
+  on-bus = rw (m, q, o, a) refl
 
-  -- it would be that of nobody only without stations, and has no sets then
+  -- the search by what the table says
+  bus-searched : asOption found ≡ newest (generationsOf t (stations t) i) (onBus (view t)) (stations t)
+  bus-searched = rw (on-bus, a) at e
+
+  -- nobody is found: nothing is heard
   pub nobody-reached : found ≡ Nobody → 0 ≡ reachFigure (view t) i
-  unfolding view byGeneration
-  nobody-reached p = rw (← all-searched, p, promise .short-read [] _ (λ z. absurd (omega arith)))
+  unfolding view
+  nobody-reached p = rw (nobody-unheard (stations t) (onBus (view t)) (generationsOf t (stations t) i) bus-searched t i p)
 
-  -- that of station g, whose copy starts at d
-  pub reached : {g d off on : ℕ} {config : List ℕ} → found ≡ At g → d ≡ address n i g → config ≡ copyFrom t d .config
-      → off ≡ offSet t → on ≡ minus every off → reachFigure (view t) i ≡ reachOf config on
-  unfolding view byGeneration
-  reached p d c o m = rw (← all-searched, p, c, d, m, o, q, a)
+  -- station g is found, whose copy starts at d
+  pub reached : {g d : ℕ} {config : List ℕ} → found ≡ At g → d ≡ address n i g → config ≡ copyFrom t d .config
+      → reachFigure (view t) i ≡ cond (holdsRead config on) (cond (holdsWrite config on) 3 1) 0
+  unfolding view byGeneration hears
+  reached p d c = rw (← bus-searched, p, c, d, a, on-bus)

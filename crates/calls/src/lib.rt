@@ -113,19 +113,18 @@ pub fn link_on(t: &mut [u8], station: u64, state: u64) -> Reply
     plain(DONE)
 }
 
-// What the stations on the bus can do by the item's newest configuration: 1 read, 3 also write, 0 neither.
+// What the stations on the bus can do by the configuration that polling them all finds: 1 read, 3 also write, 0 neither.
 fn reach_figure(t: &[u8], i: usize) -> u64
     requires { ⌜ (sound (now t) ≡ true) × (i < items (now t)) ⌝ }
     ensures { λ r. ⌜ r ≡ reachFigure (view (now (t .entry))) i ⌝ }
 {
     let n = stations(t);
-    let every = sets::all_stations(n);
-    let newest = search(t, n, i, every).by_generation;
+    let on = sets::difference(sets::all_stations(n), off_set(t));
+    let newest = search(t, n, i, on).by_generation;
     let Station::At(g) = newest else {
         return 0;
     };
     let config = config_at(t, address(n, i, g));
-    let on = sets::difference(every, off_set(t));
     if !sets::holds_read_set(config, on) {
         return 0;
     }

@@ -1,10 +1,11 @@
--- The starred cases of document 01, "Trays through the house", the mistakes of "What growers' programs get wrong", and the stations of a new table
--- (document 02, 2026-02), as one table: on bytes, from a lay on, call by call.
+-- The starred cases of document 01, "Trays through the house", the mistakes of "What growers' programs get wrong", the stations of a new table and the
+-- house whose groups move (document 02, 2026-02 and 2026-03), as one table: on bytes, from a lay on, call by call.
 use mathlib.Core.Path.{_≡_}
 use mathlib.Core.List.{List, [], _∷_, _++_}
 use mathlib.Core.Option.{Option, none, some}
 use Prim.Native.Nat.{ℕ}
 use lib.ListN.{replicate}
+use Rattle.layout.specs.Layout.{tableLength}
 use Rattle.rules.specs.Calls.{Call, lay, openRead, openWrite, openChange, poll, put, commit, abandon, link, reach}
 use Rattle.rules.specs.Calls.{dataSort, configSort, offState, onState}
 use Rattle.rules.specs.Lists.{replies}
@@ -29,6 +30,13 @@ apart = side 1 0 0 ++ side 2 0 0
 -- "Places 0001, 0000, 0002", with a write set that meets both
 abbrev pub gap : List ℕ
 gap = side 1 0 2 ++ side 3 0 0
+
+-- "A house has four stations, with read and write set {0, 1}. It changes to read {2}, write {2, 3}"
+abbrev pub fromPair : List ℕ
+fromPair = side 3 0 0 ++ side 3 0 0
+
+abbrev pub toOther : List ℕ
+toOther = side 4 0 0 ++ side 12 0 0
 
 -- ---- calls
 -- "A round polls 0 and 1 before its puts or commit unless the case says otherwise."
@@ -60,19 +68,32 @@ changes = round (openChange 0 single) (dataPut 2 ∷ configPut 0 ∷ configPut 1
 abbrev pub everywhere : List Call
 everywhere = round (openChange 0 single) (dataPut 2 ∷ configPut 0 ∷ configPut 1 ∷ configPut 2 ∷ commit ∷ [])
 
--- ---- rows: calls after the lay, and what the last of them gets, its number and three figures
+-- "data puts 2, 3, configuration puts 0, 1": the change of the house of four
+abbrev pub moves : List Call
+moves = round (openChange 0 toOther) (dataPut 2 ∷ dataPut 3 ∷ configPut 0 ∷ configPut 1 ∷ commit ∷ [])
+
+-- ---- rows: the stations and the configuration of a lay, the calls after it, and what the last of them gets, its number and three figures
 pub record Row : Type 0 where
+  pub stations : ℕ
+  pub config : List ℕ
   pub calls : List Call
   pub gets : Reply
 
--- on a table just laid
-abbrev pub unwired : List Call → ℕ → ℕ → ℕ → ℕ → Row
-unwired calls number first second third =
-    record { calls = calls; gets = record { number = number; first = first; second = second; third = third } }
+abbrev pub house : ℕ → List ℕ → List Call → ℕ → ℕ → ℕ → ℕ → Row
+house n config calls number first second third =
+    record { stations = n; config = config; calls = calls; gets = record { number = number; first = first; second = second; third = third } }
 
--- and on one whose stations were linked: "starred cases relied on the old default and gain a link call per station"
+-- "Three stations, one item, start 500, pair sets", just laid
+abbrev pub unwired : List Call → ℕ → ℕ → ℕ → ℕ → Row
+unwired = house 3 pairs
+
+-- and with its stations linked: "starred cases relied on the old default and gain a link call per station"
 abbrev pub row : List Call → ℕ → ℕ → ℕ → ℕ → Row
 row calls = unwired (returns 0 ∷ returns 1 ∷ returns 2 ∷ calls)
+
+-- the house of four, with its stations linked and its groups moved
+abbrev pub moved : List Call → ℕ → ℕ → ℕ → ℕ → Row
+moved calls = house 4 fromPair (returns 0 ∷ returns 1 ∷ returns 2 ∷ returns 3 ∷ moves ++ calls)
 
 unfoldable pub table : List Row
 table =
@@ -140,6 +161,18 @@ table =
     -- "Raising the version in a change": not in the change's own figures, and not in those of a read after it
     ∷ row (writes ++ changes) 0 510 1 1
     ∷ row (writes ++ (changes ++ (openRead 0 ∷ poll 0 ∷ poll 2 ∷ commit ∷ []))) 0 510 1 1
+    -- ---- "Reach after a move"
+    ∷ moved [] 0 500 0 1
+    ∷ moved (reach 0 ∷ []) 0 3 0 0
+    -- "Stations 0 and 1 go off." Reach is "0, as here": "2 and 3 know only generation 0", and "no round is heard"
+    ∷ moved (drops 0 ∷ drops 1 ∷ reach 0 ∷ []) 0 0 0 0
+    ∷ moved (drops 0 ∷ drops 1 ∷ openRead 0 ∷ poll 2 ∷ poll 3 ∷ []) 0 0 0 0
+    -- one of the two that know the change is enough, and what is found then asks for 2 to read and for 2 and 3 to write
+    ∷ moved (drops 0 ∷ drops 1 ∷ returns 1 ∷ reach 0 ∷ []) 0 3 0 0
+    ∷ moved (drops 0 ∷ drops 3 ∷ reach 0 ∷ []) 0 1 0 0
+    ∷ moved (drops 2 ∷ reach 0 ∷ []) 0 0 0 0
+    -- in a round too, which does not matter: station 0 stays polled when it goes off
+    ∷ moved (openRead 0 ∷ poll 0 ∷ poll 2 ∷ drops 0 ∷ drops 1 ∷ reach 0 ∷ []) 0 0 0 0
     ∷ []
 
 -- ---- the replies
@@ -148,10 +181,10 @@ lastOf [] = none
 lastOf (r ∷ []) = some r
 lastOf (r ∷ (s ∷ rest)) = lastOf (s ∷ rest)
 
--- "Three stations, one item, start 500, pair sets", laid over 224 bytes that are all 7
+-- "one item, start 500", laid over bytes that are all 7
 abbrev pub got : List Row → List (Option Reply)
 got [] = []
-got (r ∷ rows) = lastOf (replies (replicate 224 7) (lay 3 1 500 pairs ∷ r .calls)) ∷ got rows
+got (r ∷ rows) = lastOf (replies (replicate (tableLength (r .stations) 1) 7) (lay (r .stations) 1 500 (r .config) ∷ r .calls)) ∷ got rows
 
 abbrev pub expected : List Row → List (Option Reply)
 expected [] = []

@@ -21,7 +21,7 @@ use Rattle.layout.proofs.Stored.{stored}
 use Rattle.rules.specs.Calls.{Call, lay, openRead, openWrite, openChange, poll, put, commit, abandon, link, reach, isLay, isData, isOff}
 use Rattle.rules.specs.Passed.{Passable}
 use Rattle.rules.specs.Rules.{tests, numberOf, first, idle, noSize, noSort, noLink, wrongPut, spent, spentAtPut, written}
-use Rattle.rules.specs.Figures.{Figures, figuresOf, closing, reachOf, oneFigure}
+use Rattle.rules.specs.Figures.{Figures, figuresOf, closing, oneFigure}
 use Rattle.rules.specs.After.{stores}
 use Rattle.rules.specs.Reply.{replyOf, reply, after, answer}
 use Rattle.rules.specs.Lists.{replies, afterAll, AllPassable}
@@ -174,9 +174,9 @@ module _ (v w : State) (a : Alike v w) (listed : v .isSound ≡ true → v .roun
   alike-law (reach i) =
       record {
         tested = λ _ j. (not (ltb i (same .m j)), 2) ∷ [];
-        figures = λ h. ap (λ x. oneFigure (reachOf (x .config) (minus (full (v .n)) (v .off))))
-            (by-generation-same (v .copies i) (w .copies i) (full (v .n)) (v .n) (λ s l. same .copies i s (rw (same .m) at (h .1 .0)) (rw (same .n) at l)))
-            ∙ rw (same .n, same .off);
+        figures = λ h. let e : (s : ℕ) → s < v .n → v .copies i s ≡ w .copies i s = λ s l. same .copies i s (rw (same .m) at (h .1 .0)) (rw (same .n) at l) in
+            let on = minus (full (v .n)) (v .off) in
+            rw (hears-same (v .copies i) (w .copies i) on (v .n) e, by-generation-same (v .copies i) (w .copies i) on (v .n) e) (rw (same .n, same .off) refl);
         states = λ _. record { n = same .n; m = same .m; off = same .off; round = same .round; copies = same .copies };
       }
 

@@ -9,12 +9,13 @@ use lib.Dec.{ltb}
 use borrow.Author.Tests.{ltb-true, ltb-false}
 use Rattle.quorum.specs.Sets.{member, full}
 use Rattle.quorum.specs.Configurations.{valid, holdsRead, holdsWrite}
+use Rattle.quorum.specs.Promise.{_⊆_}
 use Rattle.basics.proofs.Tests.{by-cases, either}
 use Rattle.quorum.proofs.Promise.{promise}
 use Rattle.layout.specs.Fields.{Copy}
 use Rattle.layout.specs.Newest.{byVersion, byGeneration, hears}
 use Rattle.layout.specs.Newest.{IsNewest}
-use Rattle.layout.proofs.Newer.{heard-finds}
+use Rattle.layout.proofs.Newer.{finds, heard-finds}
 use Rattle.layout.proofs.Stored.{stored}
 
 -- some write quorum of the configuration, all of whose replicas have P: the witness is a station set that holds a write set
@@ -101,6 +102,22 @@ module _ (n : ℕ) (cs : ℕ → Copy) (v w g polled : ℕ) (k : Kept n cs v w g
       let h₃ = k .versions (f .b) (f .newestVersion .station) in
       let ev : cs (f .b) .version ≡ w = omega arith in
       rw (f .version, f .generation) (record { version = ev; value = k .values (f .b) (f .newestVersion .station) ev; generation = eg; config = ec })
+
+  -- more polls keep it heard: the current configuration is found by them too
+  pub heard-grows : (more : ℕ) → polled ⊆ more → hears cs polled n ≡ true → hears cs more n ≡ true
+  unfolding hears
+  heard-grows more grows e =
+      let f = heard-finds cs polled n e in
+      let h = f .newestGeneration in
+      let r : holdsRead (cs (f .g) .config) polled ≡ true = rw (f .generation) at e in
+      let eg = current-generation (f .g) h r in
+      let x = finds cs more n (f .g) (h .station) (grows (f .g) (h .inSet)) in
+      let y = x .newestGeneration in
+      let h₁ = y .greatest (f .g) (h .station) (grows (f .g) (h .inSet)) in
+      let h₂ = k .generations (x .g) (y .station) in
+      let new : cs (x .g) .generation ≡ g = omega arith in
+      rw (x .generation, k .current (x .g) (y .station) new)
+      (promise .read-more (k .config) polled more grows (rw (k .current (f .g) (h .station) eg) at r))
 
 -- ---- the commits
 -- a version and a value stored at the stations of d

@@ -20,6 +20,7 @@ pub use Rattle.rules.proofs.Demand2.{demand2}
 pub use Rattle.rules.proofs.Demand3.{demand3}
 pub use Rattle.rules.proofs.Kept.{sound-kept}
 pub use Rattle.rules.proofs.OffAtFirst.{off-at-first}
+pub use Rattle.rules.proofs.ReachExact.{reach-exact}
 pub use Rattle.rules.proofs.Twice.{twice, lay-alone}
 pub use Rattle.rules.proofs.Alike.{alike-tables}
 

@@ -13,6 +13,10 @@ pub mod Demand3
 pub mod Kept
 pub mod OffAtFirst
 pub mod Alike
+pub mod Asking
+pub mod OnTheBus
+pub mod OutOfReach
+pub mod ReachExact
 pub mod Twice
 pub mod Room
 pub mod Demands

@@ -5,8 +5,7 @@ use mathlib.Core.Logic.{_⊎_, inl, inr}
 use Prim.Native.Nat.{ℕ, zero, suc, _^_, _<_}
 use native.Mathlib.Omega.{arith}
 use Rattle.basics.specs.Bytes.{AreBytes}
-use Rattle.quorum.specs.Sets.{full}
-use Rattle.quorum.specs.Configurations.{holdsRead, holdsWrite}
+use Rattle.quorum.specs.Configurations.{holdsWrite}
 use Rattle.layout.specs.Rounds.{withPoll}
 use Rattle.layout.specs.Newest.{byGeneration, hears}
 use Rattle.layout.specs.View.{Table, view, own}
@@ -37,8 +36,9 @@ module _ (t : Table) (b : AreBytes t) where
       (at-most-1 (hears (own (view t)) (withPoll (view t .round) s .polled) (view t .n)), omega arith, omega arith)
   figured-fits of-commit a = closing-fits t b (view t .round .kind) (commit-heard t a) (commit-unspent t a)
   figured-fits (of-reach {i}) a =
-      let config = byGeneration (view t .copies i) (full (view t .n)) (view t .n) .config in
-      (at-most-3 (holdsRead config (onBus (view t))) (holdsWrite config (onBus (view t))), omega arith, omega arith)
+      let on = onBus (view t) in
+      let found = byGeneration (view t .copies i) on (view t .n) in
+      (at-most-3 (hears (view t .copies i) on (view t .n)) (holdsWrite (found .config) on), omega arith, omega arith)
 
   done-fits : (c : Call) → Allowed (view t) c → Fit (figuresOf (view t) c)
   done-fits c a = go (judged (view t) c .figures)

@@ -1,33 +1,34 @@
 -- What each call that is done does, from the state after it and the figures of its reply: lemmas for Laws.antt.
 use mathlib.Core.Path.{_≡_, refl, sym, ap, _∙_}
-use mathlib.Core.Bool.{Bool, true, false, cond}
+use mathlib.Core.Bool.{Bool, true, false, not, cond, _&&_}
 use mathlib.Core.List.{List}
 use mathlib.Core.Logic.{_↔_}
 use Prim.Native.Nat.{ℕ, _≤_, _<_}
 use native.Mathlib.Omega.{arith}
 use lib.Dec.{ltb}
-use borrow.Author.Tests.{lt-ltb, eq-eqb, ne-eqb}
+use borrow.Author.Tests.{eq-eqb, ne-eqb}
 use Rattle.basics.proofs.Tests.{clash}
 use Rattle.quorum.specs.Sets.{member, join, remove, full}
-use Rattle.quorum.specs.Configurations.{holdsRead, holdsWrite}
+use Rattle.quorum.specs.Configurations.{writeSet, holdsWrite}
 use Rattle.quorum.proofs.Promise.{promise}
 use Rattle.layout.specs.Fields.{Kind, none, read, write, change, Round}
+use Rattle.layout.specs.Newest.{byGeneration, hears}
 use Rattle.layout.specs.Rounds.{withPolled, withPuts}
 use Rattle.layout.specs.View.{State, own, heard, SameContents}
 use Rattle.layout.specs.Updates.{noTarget}
 use Rattle.layout.proofs.Fields.{opened}
 use Rattle.layout.proofs.Soundness.{StateSound}
 use Rattle.layout.proofs.Held.{withOff, withRound}
-use Rattle.layout.proofs.Newer.{by-generation, some-newest, hears-same}
+use Rattle.layout.proofs.Newer.{by-generation, hears-same}
 use Rattle.layout.proofs.Stored.{stored}
 use Rattle.rules.specs.Calls.{lay, poll, put, commit, link, reach}
-use Rattle.rules.specs.Figures.{figuresOf, closing, reachOf, onBus}
+use Rattle.rules.specs.Figures.{figuresOf, closing, onBus}
 use Rattle.rules.specs.After.{stores}
-use Rattle.rules.specs.Demand2.{Found}
+use Rattle.rules.specs.Demand2.{QuorumIn, Found, HeardOn}
 use Rattle.rules.specs.Steps.{Joined, Removed, SameCopies, SameOrder, Fresh, Laid, Opened, Polled, Put, Linked, Closing, Committed, Reached}
 use Rattle.rules.specs.declared.Reply.{Reply}
 use Rattle.rules.proofs.Demand1.{Shows}
-use Rattle.rules.proofs.Quorums.{version-found, generation-found, heard-exactly}
+use Rattle.rules.proofs.Quorums.{version-found, generation-found, heard-exactly, heard-on}
 use Rattle.rules.proofs.States.{next}
 
 -- ---- what stays, and what is fresh
@@ -75,22 +76,23 @@ module _ {A : Type 0} where
   one-told true p = ((λ e. p .0 refl, λ a. refl), (λ e. absurd (omega arith), λ h. absurd (h (p .0 refl))))
   one-told false p = ((λ e. absurd (omega arith), λ a. clash (p .1 a) refl), (λ e a. clash (p .1 a) refl, λ h. refl))
 
-  three-told : {B : Type 0} (a b : Bool) → (a ≡ true) ↔ A → (b ≡ true) ↔ B
-      → ((three a b ≡ 1) ↔ (A × (B → ⊥))) × ((three a b ≡ 3) ↔ (A × B)) × ((three a b ≡ 0) ↔ (A → ⊥))
+module _ (H W : ℕ → Type 0) where
+  three-told : (a b : Bool) → (a ≡ true) ↔ ((g : ℕ) × H g) → ((g : ℕ) → H g → (b ≡ true) ↔ W g)
+      → ((three a b ≡ 1) ↔ ((g : ℕ) × H g × (W g → ⊥))) × ((three a b ≡ 3) ↔ ((g : ℕ) × H g × W g)) × ((three a b ≡ 0) ↔ ((g : ℕ) → H g → ⊥))
   three-told true true p q = (
-    (λ e. absurd (omega arith), λ h. absurd (h .1 (q .0 refl))),
-    (λ e. (p .0 refl, q .0 refl), λ h. refl),
-    (λ e. absurd (omega arith), λ h. absurd (h (p .0 refl))),
+    (λ e. absurd (omega arith), λ h. absurd (h .2 (q (h .0) (h .1) .0 refl))),
+    (λ e. let x = p .0 refl in (x .0, x .1, q (x .0) (x .1) .0 refl), λ h. refl),
+    (λ e. absurd (omega arith), λ h. let x = p .0 refl in absurd (h (x .0) (x .1))),
   )
   three-told true false p q = (
-    (λ e. (p .0 refl, λ y. clash (q .1 y) refl), λ h. refl),
-    (λ e. absurd (omega arith), λ h. clash (q .1 (h .1)) refl),
-    (λ e. absurd (omega arith), λ h. absurd (h (p .0 refl))),
+    (λ e. let x = p .0 refl in (x .0, x .1, λ y. clash (q (x .0) (x .1) .1 y) refl), λ h. refl),
+    (λ e. absurd (omega arith), λ h. clash (q (h .0) (h .1) .1 (h .2)) refl),
+    (λ e. absurd (omega arith), λ h. let x = p .0 refl in absurd (h (x .0) (x .1))),
   )
   three-told false b p q = (
-    (λ e. absurd (omega arith), λ h. clash (p .1 (h .0)) refl),
-    (λ e. absurd (omega arith), λ h. clash (p .1 (h .0)) refl),
-    (λ e x. clash (p .1 x) refl, λ h. refl),
+    (λ e. absurd (omega arith), λ h. clash (p .1 (h .0, h .1)) refl),
+    (λ e. absurd (omega arith), λ h. clash (p .1 (h .0, h .1)) refl),
+    (λ e g x. clash (p .1 (g, x)) refl, λ h. refl),
   )
 
 -- ---- poll
@@ -189,27 +191,22 @@ module _ (v w : State) (r : Reply) (l : SameContents w (next v commit)) (item : 
 
 -- ---- reach
 module _ (v : State) (i : ℕ) (f : StateSound v) where
-  all-stations : (s : ℕ) → member (full (v .n)) s ≡ ltb s (v .n)
-  all-stations s = promise .member-full (v .n) s (f .small)
+  pub on-members : (s : ℕ) → member (onBus v) s ≡ (ltb s (v .n) && not (member (v .off) s))
+  on-members s = promise .member-minus (full (v .n)) (v .off) s ∙ rw (promise .member-full (v .n) s (f .small))
 
   pub reach-step : (r : Reply) → Shows r (figuresOf v (reach i)) → Reached v i r
   unfolding figuresOf
   reach-step r q =
-      let x = some-newest (λ s. v .copies i s .generation) (full (v .n)) (v .n) 0 (f .positive) (all-stations 0 ∙ lt-ltb 0 (v .n) (f .positive)) in
-      let config = v .copies i (x .0) .config in
-      let e = by-generation (v .copies i) (full (v .n)) (v .n) (x .0) (x .1) in
-      let y : r .first ≡ three (holdsRead config (onBus v)) (holdsWrite config (onBus v)) = q .0 ∙ ap (λ x. reachOf (x .config) (onBus v)) e in
-      let z = three-told _ _ (promise .holds-read config (onBus v)) (promise .holds-write config (onBus v)) in
+      let on = onBus v in
+      let z = three-told (HeardOn v i on) (λ g. QuorumIn (writeSet (v .copies i g .config)) on) (hears (v .copies i) on (v .n))
+      (holdsWrite (byGeneration (v .copies i) on (v .n) .config) on) (heard-on v i on)
+      (λ g h. rw (by-generation (v .copies i) on (v .n) g (h .0)) (promise .holds-write (v .copies i g .config) on)) in
       record {
-        all = full (v .n);
-        isAll = all-stations;
-        on = onBus v;
-        isOn = λ s. promise .member-minus (full (v .n)) (v .off) s ∙ rw (all-stations s);
-        g = x .0;
-        newest = x .1;
-        reads = rw y (z .0);
-        writes = rw y (z .1);
-        neither = rw y (z .2);
+        on = on;
+        isOn = on-members;
+        reads = rw (q .0) (z .0);
+        writes = rw (q .0) (z .1);
+        neither = rw (q .0) (z .2);
         noOther = (q .1, q .2);
       }
 

@@ -1,9 +1,10 @@
 -- The book of one copy (document 01): the one-copy reference model that demand 3 holds the store to.
 -- "It is fed each call with its arguments and the number of its reply, nothing else."
-use mathlib.Core.List.{List}
+use mathlib.Core.List.{List, [], _∷_}
 use Prim.Native.Nat.{ℕ, zero, suc, _+_}
 use lib.ListN.{getD, set, replicate}
 use Rattle.rules.specs.Calls.{Call, lay, openRead, openWrite, openChange, poll, put, commit, abandon, link, reach}
+use Rattle.rules.specs.declared.Reply.{Reply}
 
 -- "It keeps, for each of 32 items, a value, a count of writes and a count of changes." The 32 stands in the step of a lay.
 pub record Entry : Type 0 where
@@ -55,3 +56,9 @@ step b (reach i) = b
 unfoldable pub fed : Book → Call → ℕ → Book
 fed b c zero = step b c
 fed b c (suc k) = b
+
+-- the book after a list of calls, fed each of them with the number of its reply
+abbrev pub fedAll : Book → List Call → List Reply → Book
+fedAll b [] rest = b
+fedAll b (c ∷ calls) [] = b
+fedAll b (c ∷ calls) (r ∷ rest) = fedAll (fed b c (r .number)) calls rest

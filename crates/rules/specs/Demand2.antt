@@ -31,6 +31,10 @@ pub record Found (v : State) : Type 0 where
 abbrev pub Heard : (v : State) → Found v → Type 0
 Heard v f = QuorumIn (readSet (own v (f .g) .config)) (v .round .polled)
 
+-- the same of any item and any stations: polling them finds the configuration of station g, and is heard
+abbrev pub HeardOn : State → ℕ → ℕ → ℕ → Type 0
+HeardOn v i set g = IsNewest (λ s. v .copies i s .generation) set (v .n) g × QuorumIn (readSet (v .copies i g .config)) set
+
 -- the counter that the round must raise is spent
 abbrev pub Spent : (v : State) → Found v → Kind → Type 0
 Spent v f none = ⊥

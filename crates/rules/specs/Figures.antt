@@ -1,11 +1,10 @@
 -- The figures of each call that is done (document 01, "The calls").
 use mathlib.Core.Bool.{cond}
-use mathlib.Core.List.{List}
 use Prim.Native.Nat.{ℕ, _+_}
 use Rattle.quorum.specs.Sets.{full, minus}
-use Rattle.quorum.specs.Configurations.{holdsRead, holdsWrite}
+use Rattle.quorum.specs.Configurations.{holdsWrite}
 use Rattle.layout.specs.Rounds.{withPoll}
-use Rattle.layout.specs.Fields.{Kind, none, read, write, change}
+use Rattle.layout.specs.Fields.{Copy, Kind, none, read, write, change}
 use Rattle.layout.specs.Newest.{byGeneration, hears}
 use Rattle.layout.specs.View.{State, own, foundByVersion, foundByGeneration}
 use Rattle.rules.specs.Calls.{Call, lay, openRead, openWrite, openChange, poll, put, commit, abandon, link, reach}
@@ -29,17 +28,17 @@ closing v read = record { first = foundByVersion v .value; second = foundByVersi
 closing v write = record { first = v .round .value; second = foundByVersion v .version + 1; third = foundByGeneration v .generation }
 closing v change = record { first = foundByVersion v .value; second = foundByVersion v .version; third = foundByGeneration v .generation + 1 }
 
--- "take the configuration of the highest generation among all the item's copies. The figure is 1 if the stations on the bus
--- hold one of its read sets, 3 if also a write set, else 0." Of copies with equal generations that of the lowest station is taken, as in
--- a round (docs/DECISIONS.md).
-abbrev pub reachOf : List ℕ → ℕ → ℕ
-reachOf config on = cond (holdsRead config on) (cond (holdsWrite config on) 3 1) 0
+-- Document 02, 2026-03: "Reach shall be judged by what polling every station on the bus finds: 1 if that is heard, 3 if they also hold a write set
+-- of the configuration found, else 0". What is found and heard is a round's (Newest.antt of the layout), with the stations on the bus as the polled set: of
+-- copies with equal generations that of the lowest station counts, and with nobody on the bus nothing is heard. An open round does not matter.
+abbrev pub reachOf : (ℕ → Copy) → ℕ → ℕ → ℕ
+reachOf copies on n = cond (hears copies on n) (cond (holdsWrite (byGeneration copies on n .config) on) 3 1) 0
 
 abbrev pub onBus : State → ℕ
 onBus v = minus (full (v .n)) (v .off)
 
 abbrev pub reachFigure : State → ℕ → ℕ
-reachFigure v i = reachOf (byGeneration (v .copies i) (full (v .n)) (v .n) .config) (onBus v)
+reachFigure v i = reachOf (v .copies i) (onBus v) (v .n)
 
 -- "Poll's first figure is 1 if the round is now heard. .. Reach has its figure first. All other figures are zero."
 unfoldable pub figuresOf : State → Call → Figures

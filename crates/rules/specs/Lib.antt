@@ -15,4 +15,5 @@ pub mod Twice
 pub mod LayAlone
 pub mod Alike
 pub mod Demand3
+pub mod ReachExact
 pub mod SoundKept

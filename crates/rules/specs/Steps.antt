@@ -11,8 +11,7 @@ use Prim.Native.Nat.{ℕ, _+_, _<_}
 use lib.Dec.{ltb, eqb}
 use Rattle.basics.specs.Bytes.{AreBytes}
 use Rattle.quorum.specs.Sets.{member}
-use Rattle.quorum.specs.Configurations.{readSet, writeSet}
-use Rattle.layout.specs.Newest.{IsNewest}
+use Rattle.quorum.specs.Configurations.{writeSet}
 use Rattle.layout.specs.Fields.{Kind, none, read, write, change, Round}
 use Rattle.layout.specs.View.{Table, State, view, own}
 use Rattle.layout.specs.Updates.{noTarget}
@@ -20,7 +19,7 @@ use Rattle.rules.specs.Calls.{Call, lay, openRead, openWrite, openChange
 use Rattle.rules.specs.Calls.{dataSort, configSort, offState, onState}
 use Rattle.rules.specs.Passed.{Passable}
 use Rattle.rules.specs.Reply.{reply, after}
-use Rattle.rules.specs.Demand2.{QuorumIn, Found, Heard}
+use Rattle.rules.specs.Demand2.{QuorumIn, Found, Heard, HeardOn}
 use Rattle.rules.specs.declared.Reply.{Reply}
 
 -- ---- sets: b is a with station s, and b is a without it
@@ -129,19 +128,15 @@ pub record Committed (v w : State) (r : Reply) : Type 0 where
   pub noConfigPut : (s : ℕ) → s < v .n → member (v .round .configPuts) s ≡ false
       → (w .copies (v .round .item) s .generation ≡ own v s .generation) × (w .copies (v .round .item) s .config ≡ own v s .config)
 
--- ---- reach: "take the configuration of the highest generation among all the item's copies. The figure is 1 if the stations on the bus
--- hold one of its read sets, 3 if also a write set, else 0."
+-- ---- reach, document 02, 2026-03: "judged by what polling every station on the bus finds: 1 if that is heard, 3 if they also hold a write set of the
+-- configuration found, else 0". What that means for rounds is in ReachExact.antt.
 pub record Reached (v : State) (i : ℕ) (r : Reply) : Type 0 where
-  -- all n stations and those on the bus, as the sets with these members, and the station whose copy has the highest generation
-  pub all : ℕ
-  pub isAll : (s : ℕ) → member all s ≡ ltb s (v .n)
+  -- the stations on the bus, as the set with these members; polling them finds the configuration of a station g, and nothing where there are none
   pub on : ℕ
   pub isOn : (s : ℕ) → member on s ≡ (ltb s (v .n) && not (member (v .off) s))
-  pub g : ℕ
-  pub newest : IsNewest (λ s. v .copies i s .generation) all (v .n) g
-  pub reads : (r .first ≡ 1) ↔ (QuorumIn (readSet (v .copies i g .config)) on × (QuorumIn (writeSet (v .copies i g .config)) on → ⊥))
-  pub writes : (r .first ≡ 3) ↔ (QuorumIn (readSet (v .copies i g .config)) on × QuorumIn (writeSet (v .copies i g .config)) on)
-  pub neither : (r .first ≡ 0) ↔ (QuorumIn (readSet (v .copies i g .config)) on → ⊥)
+  pub reads : (r .first ≡ 1) ↔ ((g : ℕ) × HeardOn v i on g × (QuorumIn (writeSet (v .copies i g .config)) on → ⊥))
+  pub writes : (r .first ≡ 3) ↔ ((g : ℕ) × HeardOn v i on g × QuorumIn (writeSet (v .copies i g .config)) on)
+  pub neither : (r .first ≡ 0) ↔ ((g : ℕ) → HeardOn v i on g → ⊥)
   pub noOther : (r .second ≡ 0) × (r .third ≡ 0)
 
 -- the state before a call, the state after it, and its reply

@@ -1,0 +1,144 @@
+-- Reach is exact (document 02, 2026-03): its figure says what rounds on the item can do. On every table it says whether a round that polls every station on
+-- the bus is heard, and whether a write or a change that also has puts at each of them finishes. Over every list of demand 3 it says more: where it is 0,
+-- no part of the stations on the bus is heard either, and where it is 1 or 3, the read that polls them all gives the book's figures.
+use mathlib.Core.Path.{_≡_}
+use mathlib.Core.Bool.{Bool, true, false, not, _||_}
+use mathlib.Core.List.{List, [], _∷_, _++_}
+use mathlib.Core.Logic.{_↔_, _⊎_}
+use Prim.Native.Nat.{ℕ, _-_, _^_}
+use lib.Dec.{eqb}
+use Rattle.basics.specs.Bytes.{AreBytes}
+use Rattle.quorum.specs.Sets.{member}
+use Rattle.quorum.specs.Configurations.{writeSet}
+use Rattle.quorum.specs.Promise.{_⊆_}
+use Rattle.layout.specs.Fields.{Copy, none}
+use Rattle.layout.specs.View.{Table, State, view}
+use Rattle.rules.specs.Calls.{Call, lay, openRead, openWrite, openChange, poll, put, commit, abandon, link, reach}
+use Rattle.rules.specs.Calls.{dataSort, configSort, isOn}
+use Rattle.rules.specs.Passed.{Passable}
+use Rattle.rules.specs.Figures.{onBus}
+use Rattle.rules.specs.Reply.{reply, after}
+use Rattle.rules.specs.Lists.{replies, afterAll, AllPassable}
+use Rattle.rules.specs.Book.{Book, Entry, entry, fedAll}
+use Rattle.rules.specs.Demand2.{QuorumIn, HeardOn}
+use Rattle.rules.specs.declared.Reply.{Reply}
+
+-- ---- all stations on the bus, in any order
+-- a station is in a list
+abbrev pub among : List ℕ → ℕ → Bool
+among [] s = false
+among (k ∷ rest) s = eqb s k || among rest s
+
+-- the list has all stations on the bus, and no others; one may come twice. Their set has the members that Steps.antt names.
+abbrev pub AllOn : State → List ℕ → Type 0
+AllOn v order = (s : ℕ) → among order s ≡ member (onBus v) s
+
+-- a poll of each, and a put of a sort at each
+abbrev pub polls : List ℕ → List Call
+polls [] = []
+polls (s ∷ rest) = poll s ∷ polls rest
+
+abbrev pub puts : ℕ → List ℕ → List Call
+puts sort [] = []
+puts sort (s ∷ rest) = put s sort ∷ puts sort rest
+
+-- ---- what the figure says of one table
+-- an opening of item i. It is done on a sound table with no open round that has the item; an open change needs a valid target too (Needs.antt).
+pub data Opens : Call → ℕ → Type 0 where
+  of-read : {i : ℕ} → Opens (openRead i) i
+  of-write : {i value : ℕ} → Opens (openWrite i value) i
+  of-change : {i : ℕ} {target : List ℕ} → Opens (openChange i target) i
+
+-- the item can be read
+abbrev pub Reads : ℕ → Type 0
+Reads figure = (figure ≡ 1) ⊎ (figure ≡ 3)
+
+-- every call is done; the first figure of the last reply, or the one given where there is none
+abbrev pub AllDone : List Reply → Type 0
+AllDone [] = Unit {0}
+AllDone (r ∷ rest) = (r .number ≡ 0) × AllDone rest
+
+abbrev pub lastFigure : ℕ → List Reply → ℕ
+lastFigure x [] = x
+lastFigure x (r ∷ rest) = lastFigure (r .first) rest
+
+-- the replies to the polls: the last says heard, or not
+pub record PollsSay (figure : ℕ) (answers : List Reply) : Type 0 where
+  pub done : AllDone answers
+  pub heard : (lastFigure 0 answers ≡ 1) ↔ Reads figure
+  pub unheard : (lastFigure 0 answers ≡ 0) ↔ (figure ≡ 0)
+
+-- the number of a commit after them, by whether a counter that the round must raise is spent, and whether the quorums that it needs are written
+pub record Closes (figure number : ℕ) (Spent Written : Type 0) : Type 0 where
+  pub unheard : figure ≡ 0 → number ≡ 8
+  pub spent : Reads figure → Spent → number ≡ 10
+  pub short : Reads figure → (Spent → ⊥) → (Written → ⊥) → number ≡ 11
+  pub finished : Reads figure → (Spent → ⊥) → Written → number ≡ 0
+
+-- some copy on the bus has the last number of a counter
+abbrev pub SpentOn : (Copy → ℕ) → State → ℕ → Type 0
+SpentOn counter v i = (s : ℕ) × (member (onBus v) s ≡ true) × (counter (v .copies i s) ≡ 2 ^ 64 - 1)
+
+-- ---- what it says over a list of demand 3
+-- the call is no lay and brings no station on
+abbrev pub bringsNone : Call → Bool
+bringsNone (lay n m value config) = false
+bringsNone (openRead i) = true
+bringsNone (openWrite i value) = true
+bringsNone (openChange i target) = true
+bringsNone (poll s) = true
+bringsNone (put s sort) = true
+bringsNone commit = true
+bringsNone abandon = true
+bringsNone (link s state) = not (isOn state)
+bringsNone (reach i) = true
+
+-- each commit of a round on item i gets 8, up to the first call that is a lay or brings a station on
+abbrev pub StaysUnheard : ℕ → Table → List Call → Type 0
+StaysUnheard i t [] = Unit {0}
+StaysUnheard i t (c ∷ calls) =
+    (c ≡ commit → (view t .round .kind ≡ none → ⊥) → view t .round .item ≡ i → reply t commit .number ≡ 8)
+    × (bringsNone c ≡ true → StaysUnheard i (after t c) calls)
+
+pub record OutOfReach (t : Table) (i : ℕ) : Type 0 where
+  -- no stations on the bus would be heard, and a round on the item that has polled only such gets 8
+  pub nobody : (set : ℕ) → set ⊆ onBus (view t) → (g : ℕ) → HeardOn (view t) i set g → ⊥
+  pub unheard : (view t .round .kind ≡ none → ⊥) → view t .round .item ≡ i → view t .round .polled ⊆ onBus (view t) → reply t commit .number ≡ 8
+  -- where no round is open, none on it finishes before a station comes on
+  pub until-link : view t .round .kind ≡ none → (calls : List Call) → AllPassable calls → StaysUnheard i t calls
+
+-- the read gives what the book has for the item
+pub record GivesEntry (e : Entry) (r : Reply) : Type 0 where
+  pub number : r .number ≡ 0
+  pub value : r .first ≡ e .value
+  pub writes : r .second ≡ e .writes
+  pub changes : r .third ≡ e .changes
+
+pub record OfTheBook (t : Table) (b : Book) : Type 0 where
+  pub zero : (i : ℕ) → reply t (reach i) .number ≡ 0 → reply t (reach i) .first ≡ 0 → OutOfReach t i
+  pub reads : (i : ℕ) (order : List ℕ) → reply t (reach i) .number ≡ 0 → Reads (reply t (reach i) .first)
+      → view t .round .kind ≡ none → AllOn (view t) order
+      → GivesEntry (entry (b .items) i) (reply (afterAll t (openRead i ∷ polls order)) commit)
+
+pub record ReachExact : Type 0 where
+  -- an opening of the item, and polls of all stations on the bus
+  pub hears : (t : Table) (c : Call) (i : ℕ) (order : List ℕ) → AreBytes t → Passable c → Opens c i → reply t c .number ≡ 0 → AllOn (view t) order
+      → PollsSay (reply t (reach i) .first) (replies (after t c) (polls order))
+  -- the read that they are polls of
+  pub reads : (t : Table) (i : ℕ) (order : List ℕ) → AreBytes t → reply t (openRead i) .number ≡ 0 → AllOn (view t) order
+      → Closes (reply t (reach i) .first) (reply (afterAll t (openRead i ∷ polls order)) commit .number) ⊥ (Unit {0})
+  -- the write, with data puts at all of them, in any order too
+  pub writes : (t : Table) (i value : ℕ) (order places : List ℕ) → AreBytes t → Passable (openWrite i value) → reply t (openWrite i value) .number ≡ 0
+      → AllOn (view t) order → AllOn (view t) places
+      → Closes (reply t (reach i) .first) (reply (afterAll t (openWrite i value ∷ polls order ++ puts dataSort places)) commit .number)
+      (SpentOn (λ c. c .version) (view t) i) (reply t (reach i) .first ≡ 3)
+  -- the change, with both puts at all of them: they must hold a write set of the target as well
+  pub changes : (t : Table) (i : ℕ) (target order places others : List ℕ) → AreBytes t → Passable (openChange i target)
+      → reply t (openChange i target) .number ≡ 0 → AllOn (view t) order → AllOn (view t) places → AllOn (view t) others
+      → Closes (reply t (reach i) .first)
+      (reply (afterAll t (openChange i target ∷ polls order ++ (puts dataSort places ++ puts configSort others))) commit .number)
+      (SpentOn (λ c. c .generation) (view t) i) ((reply t (reach i) .first ≡ 3) × QuorumIn (writeSet target) (onBus (view t)))
+  -- over every list of demand 3, refused calls and further lays included, whatever the book held before it
+  pub of-the-book : (t : Table) (b : Book) (n m value : ℕ) (config : List ℕ) (calls : List Call)
+      → AreBytes t → AllPassable (lay n m value config ∷ calls) → reply t (lay n m value config) .number ≡ 0
+      → OfTheBook (afterAll t (lay n m value config ∷ calls)) (fedAll b (lay n m value config ∷ calls) (replies t (lay n m value config ∷ calls)))
