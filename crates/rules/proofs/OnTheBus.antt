@@ -61,6 +61,12 @@ all-joined v few order all =
     promise .same-members (joined 0 order) (onBus v) (λ i m. sym (same i) ∙ m) (λ i m. same i ∙ m)
 
 -- ---- what the figure's two tests say
+abbrev pub allHeard : State → ℕ → Bool
+allHeard v i = hears (v .copies i) (onBus v) (v .n)
+
+abbrev pub canWrite : State → ℕ → Bool
+canWrite v i = holdsWrite (byGeneration (v .copies i) (onBus v) (v .n) .config) (onBus v)
+
 abbrev three : Bool → Bool → ℕ
 three h w = cond h (cond w 3 1) 0
 
@@ -91,8 +97,8 @@ polls-told : (h : Bool) → ((one h ≡ 1) ↔ (h ≡ true)) × ((one h ≡ 0) �
 polls-told true = ((λ e. refl, λ e. refl), (λ e. absurd (omega arith), λ e. clash refl e))
 polls-told false = ((λ e. absurd (omega arith), λ e. clash e refl), (λ e. refl, λ e. refl))
 
-closes-told : {S W : Type 0} (h w s p : Bool) → (h ≡ true → (s ≡ true) ↔ S) → (h ≡ true → s ≡ false → (p ≡ true) ↔ W)
-    → Closes (three h w) (cond (not h) 8 (cond s 10 (cond (not p) 11 0))) S W
+closes-told : {S N : Type 0} (h w s p : Bool) → (h ≡ true → (s ≡ true) ↔ S) → (h ≡ true → s ≡ false → (p ≡ true) ↔ N)
+    → Closes (three h w) (cond (not h) 8 (cond s 10 (cond (not p) 11 0))) S N
 closes-told false w s p spends writes =
     record {
       unheard = λ e. refl;
@@ -130,19 +136,10 @@ module _ (t : Table) (bytes : AreBytes t) (isSound : view t .isSound ≡ true) (
   abbrev on : ℕ
   on = onBus v
 
-  abbrev H : Bool
-  H = hears (v .copies i) on (v .n)
-
-  abbrev config : List ℕ
-  config = byGeneration (v .copies i) on (v .n) .config
-
-  abbrev W : Bool
-  W = holdsWrite config on
-
   few : v .n ≤ 16
   few = is-sound t isSound .small
 
-  pub reach-figure : reply t (reach i) .first ≡ three H W
+  pub reach-figure : reply t (reach i) .first ≡ three (allHeard v i) (canWrite v i)
   unfolding needs figuresOf
   reach-figure = reply-figures t (reach i) (numbered .done-exactly t (reach i) .1 (isSound, (item, tt))) .0
 
@@ -160,12 +157,12 @@ module _ (t : Table) (bytes : AreBytes t) (isSound : view t .isSound ≡ true) (
   unfolding view
   small s = copy-small t bytes _
 
-  version-spent : H ≡ true → (last (byVersion (v .copies i) on (v .n) .version) ≡ true) ↔ SpentOn (λ c. c .version) v i
+  version-spent : allHeard v i ≡ true → (last (byVersion (v .copies i) on (v .n) .version) ≡ true) ↔ SpentOn (λ c. c .version) v i
   version-spent h =
       let f = heard-finds (v .copies i) on (v .n) h in
       rw (f .version) (spent-on (λ c. c .version) (f .b) (small (f .b) .version) (f .newestVersion))
 
-  generation-spent : H ≡ true → (last (byGeneration (v .copies i) on (v .n) .generation) ≡ true) ↔ SpentOn (λ c. c .generation) v i
+  generation-spent : allHeard v i ≡ true → (last (byGeneration (v .copies i) on (v .n) .generation) ≡ true) ↔ SpentOn (λ c. c .generation) v i
   generation-spent h =
       let f = heard-finds (v .copies i) on (v .n) h in
       rw (f .generation) (spent-on (λ c. c .generation) (f .g) (small (f .g) .generation) (f .newestGeneration))
@@ -178,7 +175,7 @@ module _ (t : Table) (bytes : AreBytes t) (isSound : view t .isSound ≡ true) (
 
     pub record Polled (order : List ℕ) : Type 0 where
       pub done : AllDone (replies u (polls order))
-      pub says : lastFigure 0 (replies u (polls order)) ≡ one H
+      pub says : lastFigure 0 (replies u (polls order)) ≡ one (allHeard v i)
       pub asking : Asking v (asked 0 0) (afterAll u (polls order))
 
     pub polled : (order : List ℕ) → AllOn v order → Polled order
@@ -192,9 +189,9 @@ module _ (t : Table) (bytes : AreBytes t) (isSound : view t .isSound ≡ true) (
     polls-say : (order : List ℕ) → AllOn v order → PollsSay (reply t (reach i) .first) (replies u (polls order))
     polls-say order all =
         let p = polled order all in
-        let h = polls-told H in
-        rw reach-figure
-        (record { done = p .done; heard = rw (p .says) (via (h .0) (reads-told H W)); unheard = rw (p .says) (via (h .1) (zero-told H W)) })
+        let heard = via (polls-told (allHeard v i) .0) (reads-told (allHeard v i) (canWrite v i)) in
+        let unheard = via (polls-told (allHeard v i) .1) (zero-told (allHeard v i) (canWrite v i)) in
+        rw reach-figure (record { done = p .done; heard = rw (p .says) heard; unheard = rw (p .says) unheard })
 
     -- puts at them all
     put-all : (sort : ℕ) → (sort ≡ dataSort) ⊎ (sort ≡ configSort) → wrongPut k sort ≡ false → (places : List ℕ) → AllOn v places
@@ -203,13 +200,13 @@ module _ (t : Table) (bytes : AreBytes t) (isSound : view t .isSound ≡ true) (
         all-put v isSound few sort listed places (λ s m. sym (all s) ∙ m) (asked d c) y q item busy right
 
     -- its commit
-    closes : (S N : Type 0) (y : Table) (d c : ℕ) → Asking v (asked d c) y → (H ≡ true → (spent (withRound v (asked d c)) k ≡ true) ↔ S)
-        → (H ≡ true → spent (withRound v (asked d c)) k ≡ false → (written (withRound v (asked d c)) k ≡ true) ↔ N)
+    closes : (S N : Type 0) (y : Table) (d c : ℕ) → Asking v (asked d c) y → (allHeard v i ≡ true → (spent (withRound v (asked d c)) k ≡ true) ↔ S)
+        → (allHeard v i ≡ true → spent (withRound v (asked d c)) k ≡ false → (written (withRound v (asked d c)) k ≡ true) ↔ N)
         → Closes (reply t (reach i) .first) (reply y commit .number) S N
     unfolding replyOf
     closes S N y d c q spends writes =
         rw (reach-figure, ap (λ r. r .number) (same-reply v isSound few (asked d c) y q item commit) ∙ commit-number v isSound few (asked d c) busy)
-        (closes-told H W (spent (withRound v (asked d c)) k) (written (withRound v (asked d c)) k) spends writes)
+        (closes-told (allHeard v i) (canWrite v i) (spent (withRound v (asked d c)) k) (written (withRound v (asked d c)) k) spends writes)
 
   -- ---- the read, the write and the change
   module _ (order : List ℕ) (all : AllOn v order) where
@@ -239,10 +236,10 @@ module _ (t : Table) (bytes : AreBytes t) (isSound : view t .isSound ≡ true) (
           let busy = a-round write .0 refl in
           let p = polled u write value noTarget busy a order all in
           let q = put-all u write value noTarget busy a dataSort (inl refl) refl places everywhere _ 0 0 (p .asking) in
-          let puts-there : H ≡ true → last (byVersion (v .copies i) on (v .n) .version) ≡ false → q .dataPuts ≡ on = λ h e.
+          let puts-there : allHeard v i ≡ true → last (byVersion (v .copies i) on (v .n) .version) ≡ false → q .dataPuts ≡ on = λ h e.
           ap (λ r. r .dataPuts) (q .all h e ∙ all-data _ places) ∙ all-joined v few places everywhere in
           closes u write value noTarget busy a (SpentOn (λ c. c .version) v i) (reply t (reach i) .first ≡ 3) _ (q .dataPuts) (q .configPuts) (q .asking)
-          version-spent (λ h e. rw (puts-there h e, reach-figure) (write-told H W h))
+          version-spent (λ h e. rw (puts-there h e, reach-figure) (write-told (allHeard v i) (canWrite v i) h))
 
       change-closes : (others : List ℕ) → AllOn v others → (u : Table) (target : List ℕ) → Asking v (opened change i 0 target) u
           → Closes (reply t (reach i) .first)
@@ -254,20 +251,21 @@ module _ (t : Table) (bytes : AreBytes t) (isSound : view t .isSound ≡ true) (
           let q = put-all u change 0 target busy a dataSort (inl refl) refl places everywhere _ 0 0 (p .asking) in
           let z = put-all u change 0 target busy a configSort (inr refl) refl others elsewhere _ (q .dataPuts) (q .configPuts) (q .asking) in
           let spent? = last (byGeneration (v .copies i) on (v .n) .generation) in
-          let data-there : H ≡ true → q .dataPuts ≡ on = λ h.
+          let data-there : allHeard v i ≡ true → q .dataPuts ≡ on = λ h.
           ap (λ r. r .dataPuts) (q .all h refl ∙ all-data _ places) ∙ all-joined v few places everywhere in
-          let none-there : H ≡ true → q .configPuts ≡ 0 = λ h. ap (λ r. r .configPuts) (q .all h refl ∙ all-data _ places) in
-          let both-there : H ≡ true → spent? ≡ false → (z .dataPuts ≡ on) × (z .configPuts ≡ on) = λ h e.
+          let none-there : allHeard v i ≡ true → q .configPuts ≡ 0 = λ h. ap (λ r. r .configPuts) (q .all h refl ∙ all-data _ places) in
+          let both-there : allHeard v i ≡ true → spent? ≡ false → (z .dataPuts ≡ on) × (z .configPuts ≡ on) = λ h e.
           let same = z .all h e ∙ all-config _ others in (
             ap (λ r. r .dataPuts) same ∙ data-there h,
             ap (λ r. r .configPuts) same ∙ ap (λ x. joined x others) (none-there h) ∙ all-joined v few others elsewhere,
           ) in
           let target-held = promise .holds-write target on in
+          let three-held = write-told (allHeard v i) (canWrite v i) in
           closes u change 0 target busy a (SpentOn (λ c. c .generation) v i) ((reply t (reach i) .first ≡ 3) × QuorumIn (writeSet target) on) _
           (z .dataPuts) (z .configPuts) (z .asking) generation-spent
           (λ h e. rw (both-there h e .0, both-there h e .1, reach-figure) (
-            λ w. (write-told H W h .0 (and-right (holdsWrite target on) W w), target-held .0 (and-left (holdsWrite target on) W w)),
-            λ w. and-both (holdsWrite target on) W (target-held .1 (w .1)) (write-told H W h .1 (w .0)),
+            λ w. (three-held h .0 (and-right (holdsWrite target on) (canWrite v i) w), target-held .0 (and-left (holdsWrite target on) (canWrite v i) w)),
+            λ w. and-both (holdsWrite target on) (canWrite v i) (target-held .1 (w .1)) (three-held h .1 (w .0)),
           ))
 
 -- ---- from the opening on

@@ -1,15 +1,15 @@
 -- Reach is exact. Over every list of demand 3 the table follows the book, so that a heard round has found the current configuration, and more polls keep it
 -- heard: where all stations on the bus are not heard, no part of them is, and where they are, they give what is current.
 use mathlib.Core.Path.{_≡_, refl, sym, _∙_}
-use mathlib.Core.Bool.{Bool, true, false, cond}
+use mathlib.Core.Bool.{true, false, cond}
 use mathlib.Core.List.{List, [], _∷_}
 use Prim.Native.Nat.{ℕ, zero, _<_}
 use Rattle.basics.specs.Bytes.{AreBytes}
 use Rattle.basics.proofs.Tests.{clash, fails}
-use Rattle.quorum.specs.Configurations.{valid, holdsWrite}
+use Rattle.quorum.specs.Configurations.{valid}
 use Rattle.quorum.specs.Promise.{_⊆_}
 use Rattle.layout.specs.Fields.{none}
-use Rattle.layout.specs.Newest.{byGeneration, hears}
+use Rattle.layout.specs.Newest.{hears}
 use Rattle.layout.specs.Soundness.{sound}
 use Rattle.layout.specs.View.{Table, State, view}
 use Rattle.layout.proofs.Soundness.{is-sound}
@@ -28,7 +28,7 @@ use Rattle.rules.proofs.Book.{Follows}
 use Rattle.rules.proofs.Laws.{done-allowed, bytes-kept}
 use Rattle.rules.proofs.Kept.{after-sound, stays-sound}
 use Rattle.rules.proofs.Demand3.{goes-on, begins}
-use Rattle.rules.proofs.OnTheBus.{reads-told, zero-told, reach-figure, read-shows, asks-read, exact-hears, exact-reads, exact-writes, exact-changes}
+use Rattle.rules.proofs.OnTheBus.{allHeard, canWrite, reads-told, zero-told, reach-figure, read-shows, asks-read, exact-hears, exact-reads, exact-writes, exact-changes}
 use Rattle.rules.proofs.OutOfReach.{stays}
 
 -- ---- a table that follows the book
@@ -45,13 +45,7 @@ module _ (t : Table) (b : Book) (bytes : AreBytes t) (isSound : sound t ≡ true
     unfolding needs
     item = done-allowed t (reach i) done .1 .0
 
-    abbrev can-write : Bool
-    can-write = holdsWrite (byGeneration (now .copies i) (onBus now) (now .n) .config) (onBus now)
-
-    abbrev all-heard : Bool
-    all-heard = hears (now .copies i) (onBus now) (now .n)
-
-    figure : reply t (reach i) .first ≡ cond all-heard (cond can-write 3 1) 0
+    figure : reply t (reach i) .first ≡ cond (allHeard now i) (cond (canWrite now i) 3 1) 0
     figure = reach-figure t bytes asked i item
 
     valid-there : (s : ℕ) → s < now .n → valid (now .n) (now .copies i s .config) ≡ true
@@ -71,13 +65,13 @@ module _ (t : Table) (b : Book) (bytes : AreBytes t) (isSound : sound t ≡ true
         none-heard set inside =
             fails (hears (now .copies i) set (now .n))
             (λ h. clash (heard-grows (now .n) (now .copies i) _ _ _ set (inv .kept i item) valid-there (onBus now) inside h)
-            (zero-told all-heard can-write .0 (sym figure ∙ e)))
+            (zero-told (allHeard now i) (canWrite now i) .0 (sym figure ∙ e)))
 
     gives-entry : (order : List ℕ) → Reads (reply t (reach i) .first) → now .round .kind ≡ none → AllOn now order
         → GivesEntry (entry (b .items) i) (reply (afterAll t (openRead i ∷ polls order)) commit)
     unfolding needs afterAll
     gives-entry order r idle all =
-        let h = reads-told all-heard can-write .0 (rw figure at r) in
+        let h = reads-told (allHeard now i) (canWrite now i) .0 (rw figure at r) in
         let opens = numbered .done-exactly t (openRead i) .1 (asked, (item, (idle, tt))) in
         let number = exact-reads t bytes i order all opens .finished r (λ x. x) tt in
         let shows = read-shows t bytes asked i item order all (after t (openRead i)) (asks-read t bytes i order all opens) number in

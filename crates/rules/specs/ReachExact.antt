@@ -2,7 +2,7 @@
 -- the bus is heard, and whether a write or a change that also has puts at each of them finishes. Over every list of demand 3 it says more: where it is 0,
 -- no part of the stations on the bus is heard either, and where it is 1 or 3, the read that polls them all gives the book's figures.
 use mathlib.Core.Path.{_≡_}
-use mathlib.Core.Bool.{Bool, true, false, not, _||_}
+use mathlib.Core.Bool.{Bool, true, false, _||_}
 use mathlib.Core.List.{List, [], _∷_, _++_}
 use mathlib.Core.Logic.{_↔_, _⊎_}
 use Prim.Native.Nat.{ℕ, _-_, _^_}
@@ -13,14 +13,15 @@ use Rattle.quorum.specs.Configurations.{writeSet}
 use Rattle.quorum.specs.Promise.{_⊆_}
 use Rattle.layout.specs.Fields.{Copy, none}
 use Rattle.layout.specs.View.{Table, State, view}
-use Rattle.rules.specs.Calls.{Call, lay, openRead, openWrite, openChange, poll, put, commit, abandon, link, reach}
-use Rattle.rules.specs.Calls.{dataSort, configSort, isOn}
+use Rattle.rules.specs.Calls.{Call, lay, openRead, openWrite, openChange, poll, put, commit, reach}
+use Rattle.rules.specs.Calls.{isLay, dataSort, configSort}
 use Rattle.rules.specs.Passed.{Passable}
 use Rattle.rules.specs.Figures.{onBus}
 use Rattle.rules.specs.Reply.{reply, after}
 use Rattle.rules.specs.Lists.{replies, afterAll, AllPassable}
 use Rattle.rules.specs.Book.{Book, Entry, entry, fedAll}
 use Rattle.rules.specs.Demand2.{QuorumIn, HeardOn}
+use Rattle.rules.specs.OffAtFirst.{onAfter}
 use Rattle.rules.specs.declared.Reply.{Reply}
 
 -- ---- all stations on the bus, in any order
@@ -80,25 +81,16 @@ abbrev pub SpentOn : (Copy → ℕ) → State → ℕ → Type 0
 SpentOn counter v i = (s : ℕ) × (member (onBus v) s ≡ true) × (counter (v .copies i s) ≡ 2 ^ 64 - 1)
 
 -- ---- what it says over a list of demand 3
--- the call is no lay and brings no station on
-abbrev pub bringsNone : Call → Bool
-bringsNone (lay n m value config) = false
-bringsNone (openRead i) = true
-bringsNone (openWrite i value) = true
-bringsNone (openChange i target) = true
-bringsNone (poll s) = true
-bringsNone (put s sort) = true
-bringsNone commit = true
-bringsNone abandon = true
-bringsNone (link s state) = not (isOn state)
-bringsNone (reach i) = true
+-- the call is no lay, and no station that is off comes on by it
+abbrev pub BringsNone : State → Call → Type 0
+BringsNone v c = (isLay c ≡ false) × ((s : ℕ) → member (v .off) s ≡ true → onAfter s false c ≡ false)
 
--- each commit of a round on item i gets 8, up to the first call that is a lay or brings a station on
+-- each commit of a round on item i gets 8, up to the first call that is done and is a lay or brings a station on
 abbrev pub StaysUnheard : ℕ → Table → List Call → Type 0
 StaysUnheard i t [] = Unit {0}
 StaysUnheard i t (c ∷ calls) =
     (c ≡ commit → (view t .round .kind ≡ none → ⊥) → view t .round .item ≡ i → reply t commit .number ≡ 8)
-    × (bringsNone c ≡ true → StaysUnheard i (after t c) calls)
+    × ((reply t c .number ≡ 0 → BringsNone (view t) c) → StaysUnheard i (after t c) calls)
 
 pub record OutOfReach (t : Table) (i : ℕ) : Type 0 where
   -- no stations on the bus would be heard, and a round on the item that has polled only such gets 8
