@@ -28,7 +28,8 @@ use Rattle.rules.proofs.Book.{Follows}
 use Rattle.rules.proofs.Laws.{done-allowed, bytes-kept}
 use Rattle.rules.proofs.Kept.{after-sound, stays-sound}
 use Rattle.rules.proofs.Demand3.{goes-on, begins}
-use Rattle.rules.proofs.OnTheBus.{allHeard, canWrite, reads-told, zero-told, reach-figure, read-shows, asks-read, exact-hears, exact-reads, exact-writes, exact-changes}
+use Rattle.rules.proofs.OnTheBus.{allHeard, canWrite, reads-told, zero-told, reach-figure, read-shows, asks-read}
+use Rattle.rules.proofs.OnTheBus.{exact-hears, exact-reads, exact-writes, exact-changes}
 use Rattle.rules.proofs.OutOfReach.{stays}
 
 -- ---- a table that follows the book
