@@ -10,13 +10,13 @@ use Rattle.layout.specs.Fields.{stations, items, offSet, roundOf, copyFrom}
 use Rattle.layout.specs.Newest.{newest, byGeneration, hears}
 use Rattle.layout.specs.Rounds.{withPoll}
 use Rattle.layout.specs.Soundness.{sound}
-use Rattle.layout.specs.View.{view}
+use Rattle.layout.specs.View.{view, onBus}
 use Rattle.table.specs.Search.{asOption, InTable, copiesOf, generationsOf}
 use Rattle.table.specs.declared.newest.Station.{Station}
 use Rattle.table.specs.declared.newest.Station.the-variants.{At, Nobody}
 use Rattle.rounds.proofs.Hearing.{items-in-table, nobody-unheard}
 use Rattle.rules.specs.Calls.{poll}
-use Rattle.rules.specs.Figures.{oneFigure, onBus, reachFigure, figuresOf}
+use Rattle.rules.specs.Figures.{oneFigure, reachFigure, figuresOf}
 use Rattle.rules.specs.Reply.{answer}
 use Rattle.rules.specs.declared.Reply.{Reply}
 

@@ -1,5 +1,5 @@
 -- The starred cases of document 01, "Trays through the house", the mistakes of "What growers' programs get wrong", the stations of a new table and the
--- house whose groups move (document 02, 2026-02 and 2026-03), as one table: on bytes, from a lay on, call by call.
+-- house whose sets move (document 02, 2026-02 and 2026-03), as one table: on bytes, from a lay on, call by call.
 use mathlib.Core.Path.{_≡_}
 use mathlib.Core.List.{List, [], _∷_, _++_}
 use mathlib.Core.Option.{Option, none, some}
@@ -91,7 +91,7 @@ unwired = house 3 pairs
 abbrev pub row : List Call → ℕ → ℕ → ℕ → ℕ → Row
 row calls = unwired (returns 0 ∷ returns 1 ∷ returns 2 ∷ calls)
 
--- the house of four, with its stations linked and its groups moved
+-- the house of four, with its stations linked and its sets moved
 abbrev pub moved : List Call → ℕ → ℕ → ℕ → ℕ → Row
 moved calls = house 4 fromPair (returns 0 ∷ returns 1 ∷ returns 2 ∷ returns 3 ∷ moves ++ calls)
 
@@ -171,8 +171,11 @@ table =
     ∷ moved (drops 0 ∷ drops 1 ∷ returns 1 ∷ reach 0 ∷ []) 0 3 0 0
     ∷ moved (drops 0 ∷ drops 3 ∷ reach 0 ∷ []) 0 1 0 0
     ∷ moved (drops 2 ∷ reach 0 ∷ []) 0 0 0 0
-    -- in a round too, which does not matter: station 0 stays polled when it goes off
+    -- the open round does not matter: this one has polled station 0, which goes off, and can still be done
     ∷ moved (openRead 0 ∷ poll 0 ∷ poll 2 ∷ drops 0 ∷ drops 1 ∷ reach 0 ∷ []) 0 0 0 0
+    ∷ moved (openRead 0 ∷ poll 0 ∷ poll 2 ∷ drops 0 ∷ drops 1 ∷ commit ∷ []) 0 500 0 1
+    -- the newest configuration on the bus, not that of the lowest station: with configuration puts 1, 2 station 0 still has the pairs, which 0, 1 would hold
+    ∷ row (round (openChange 0 single) (dataPut 2 ∷ configPut 1 ∷ configPut 2 ∷ commit ∷ drops 2 ∷ reach 0 ∷ [])) 0 0 0 0
     ∷ []
 
 -- ---- the replies

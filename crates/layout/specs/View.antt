@@ -5,6 +5,7 @@ use mathlib.Core.List.{List}
 use Prim.Native.Nat.{ℕ, _<_}
 use lib.ListN.{length}
 use lib.Dec.{eqb}
+use Rattle.quorum.specs.Sets.{full, minus}
 use Rattle.layout.specs.Layout.{tableLength}
 use Rattle.layout.specs.Newest.{byVersion, byGeneration, hears}
 use Rattle.layout.specs.Fields.{Copy, Round, stations, items, offSet, roundOf, copyOf}
@@ -36,6 +37,10 @@ view t =
       round = roundOf t;
       copies = copyOf t;
     }
+
+-- the stations on the bus
+abbrev pub onBus : State → ℕ
+onBus v = minus (full (v .n)) (v .off)
 
 -- two states of the same stations and items, with the same head and the same copies of them
 pub record SameContents (v w : State) : Type 0 where

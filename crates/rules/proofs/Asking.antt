@@ -14,12 +14,12 @@ use Rattle.quorum.proofs.Promise.{promise}
 use Rattle.layout.specs.Fields.{Kind, none, read, write, change, Round}
 use Rattle.layout.specs.Newest.{hears}
 use Rattle.layout.specs.Rounds.{withPolled, withPuts, withPoll, withPut}
-use Rattle.layout.specs.View.{Table, State, view, heard, SameContents}
+use Rattle.layout.specs.View.{Table, State, view, heard, SameContents, onBus}
 use Rattle.layout.proofs.Held.{withRound}
 use Rattle.rules.specs.Calls.{Call, poll, put, commit, dataSort, configSort, isData}
 use Rattle.rules.specs.Passed.{Passable}
 use Rattle.rules.specs.Rules.{numberOf, first, tests, wrongPut, spentAtPut, spent, written}
-use Rattle.rules.specs.Figures.{figuresOf, onBus}
+use Rattle.rules.specs.Figures.{figuresOf}
 use Rattle.rules.specs.Reply.{replyOf, reply, after}
 use Rattle.rules.specs.Lists.{replies, afterAll}
 use Rattle.rules.specs.Needs.{needs}

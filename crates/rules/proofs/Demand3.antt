@@ -39,9 +39,11 @@ agrees t b inv e =
     rw e (record {
       item = v .round .item;
       noted = rw (inv .noted) (noted-item (v .round .kind) (v .round .item) (v .round .value) (a .1 .0));
-      value = f .0 ∙ g .0 ∙ ap (λ y. y .value) (sym x);
-      writes = f .1 ∙ g .1 ∙ ap (λ y. y .writes) (sym x);
-      changes = f .2 ∙ g .2 ∙ ap (λ y. y .changes) (sym x);
+      gives = record {
+        value = f .0 ∙ g .0 ∙ ap (λ y. y .value) (sym x);
+        writes = f .1 ∙ g .1 ∙ ap (λ y. y .writes) (sym x);
+        changes = f .2 ∙ g .2 ∙ ap (λ y. y .changes) (sym x);
+      };
     })
 
 -- every call keeps it, a refused one too

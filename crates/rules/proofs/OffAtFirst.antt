@@ -13,7 +13,7 @@ use Rattle.quorum.specs.Sets.{member, remove}
 use Rattle.quorum.proofs.Promise.{promise}
 use Rattle.layout.specs.Fields.{none}
 use Rattle.layout.specs.Soundness.{sound}
-use Rattle.layout.specs.View.{Table, State, view, heard}
+use Rattle.layout.specs.View.{Table, State, view, onBus, heard}
 use Rattle.layout.specs.Updates.{setOff, laid}
 use Rattle.layout.proofs.Fields.{off-only, off-round, off-bytes}
 use Rattle.layout.proofs.Again.{off-over, own-off, own-puts}
@@ -178,7 +178,7 @@ module _ (t : Table) (on : ℕ → Bool) (f : Settled t on) where
   reached none-on i l =
       let e = numbered .done-exactly t (reach i) .1 (asked, (l, tt)) in
       let r = reach-step (view t) i (is-sound t asked) (reply t (reach i)) (reply-figures t (reach i) e) in
-      (e, (r .neither .1 (λ g h. none-held none-on _ (r .on) (r .isOn) (h .1)), r .noOther .0, r .noOther .1))
+      (e, (r .neither .1 (λ g h. none-held none-on _ (onBus (view t)) (r .isOn) (h .1)), r .noOther .1, r .noOther .2))
 
   bus : Bus t on
   bus =

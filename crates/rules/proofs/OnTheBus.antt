@@ -15,7 +15,7 @@ use Rattle.quorum.proofs.Promise.{promise}
 use Rattle.layout.specs.Fields.{Copy, Kind, none, read, write, change, Round}
 use Rattle.layout.specs.Newest.{IsNewest, byVersion, byGeneration, hears}
 use Rattle.layout.specs.Rounds.{withPolled, withPuts}
-use Rattle.layout.specs.View.{Table, State, view, SameContents}
+use Rattle.layout.specs.View.{Table, State, view, SameContents, onBus}
 use Rattle.layout.specs.Updates.{noTarget}
 use Rattle.layout.proofs.Fields.{opened}
 use Rattle.layout.proofs.Soundness.{is-sound}
@@ -25,7 +25,7 @@ use Rattle.layout.proofs.Stored.{Small, copy-small}
 use Rattle.rules.specs.Calls.{Call, openRead, openWrite, openChange, commit, reach, dataSort, configSort}
 use Rattle.rules.specs.Passed.{Passable}
 use Rattle.rules.specs.Rules.{numberOf, last, wrongPut, spent, written}
-use Rattle.rules.specs.Figures.{figuresOf, closing, onBus}
+use Rattle.rules.specs.Figures.{figuresOf, closing}
 use Rattle.rules.specs.Reply.{replyOf, reply, after}
 use Rattle.rules.specs.Lists.{replies, afterAll}
 use Rattle.rules.specs.Needs.{needs}

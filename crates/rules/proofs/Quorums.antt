@@ -11,7 +11,7 @@ use Rattle.layout.specs.Newest.{hears}
 use Rattle.layout.specs.View.{State, own, foundByVersion, foundByGeneration, heard}
 use Rattle.layout.proofs.Newer.{by-version, by-generation, heard-finds}
 use Rattle.rules.specs.Rules.{spent, written}
-use Rattle.rules.specs.Demand2.{Found, Heard, HeardOn, Spent, Written}
+use Rattle.rules.specs.Demand2.{Found, Heard, HeardBy, Spent, Written}
 use Rattle.rules.specs.Needs.{HeardRound}
 
 -- ---- tests that decide a condition
@@ -60,9 +60,9 @@ module _ (v : State) where
   heard-exactly = (λ e. let f = found e in (f, is-heard f .0 e), λ h. is-heard (h .0) .1 (h .1))
 
   -- the same of any item and any stations
-  pub heard-on : (i set : ℕ) → (hears (v .copies i) set (v .n) ≡ true) ↔ ((g : ℕ) × HeardOn v i set g)
+  pub heard-by : (i set : ℕ) → (hears (v .copies i) set (v .n) ≡ true) ↔ ((g : ℕ) × HeardBy v i set g)
   unfolding hears
-  heard-on i set = (
+  heard-by i set = (
     λ e. let f = heard-finds (v .copies i) set (v .n) e in
         (f .g, (f .newestGeneration, promise .holds-read (v .copies i (f .g) .config) set .0 (rw (f .generation) at e))),
     λ h. rw (by-generation (v .copies i) set (v .n) (h .0) (h .1 .0)) (promise .holds-read (v .copies i (h .0) .config) set .1 (h .1 .1)),

@@ -1,36 +1,55 @@
 -- Reach is exact. Over every list of demand 3 the table follows the book, so that a heard round has found the current configuration, and more polls keep it
 -- heard: where all stations on the bus are not heard, no part of them is, and where they are, they give what is current.
-use mathlib.Core.Path.{_≡_, refl, sym, _∙_}
+use mathlib.Core.Path.{_≡_, refl, sym, ap, _∙_}
 use mathlib.Core.Bool.{true, false, cond}
 use mathlib.Core.List.{List, [], _∷_}
-use Prim.Native.Nat.{ℕ, zero, _<_}
+use mathlib.Core.Logic.{⊎-elim}
+use Prim.Native.Nat.{ℕ, zero, suc, _<_}
+use native.Mathlib.Omega.{arith}
+use lib.Dec.{eqb}
 use Rattle.basics.specs.Bytes.{AreBytes}
 use Rattle.basics.proofs.Tests.{clash, fails}
 use Rattle.quorum.specs.Configurations.{valid}
 use Rattle.quorum.specs.Promise.{_⊆_}
+use Rattle.layout.specs.Layout.{tableLength}
 use Rattle.layout.specs.Fields.{none}
 use Rattle.layout.specs.Newest.{hears}
 use Rattle.layout.specs.Soundness.{sound}
-use Rattle.layout.specs.View.{Table, State, view}
-use Rattle.layout.proofs.Soundness.{is-sound}
-use Rattle.rules.specs.Calls.{Call, lay, openRead, commit, reach}
-use Rattle.rules.specs.Figures.{onBus}
-use Rattle.rules.specs.Reply.{reply, after}
+use Rattle.layout.specs.View.{Table, State, view, onBus}
+use Rattle.layout.proofs.Soundness.{is-sound, sound-facts}
+use Rattle.layout.proofs.Held.{withRound}
+use Rattle.rules.specs.Calls.{Call, lay, openRead, commit, abandon, reach}
+use Rattle.rules.specs.Rules.{numberOf, refusals, tests}
+use Rattle.rules.specs.Figures.{figuresOf}
+use Rattle.rules.specs.Reply.{replyOf, reply, after}
 use Rattle.rules.specs.Lists.{replies, afterAll, AllPassable}
-use Rattle.rules.specs.Book.{Book, entry, fed, fedAll}
+use Rattle.rules.specs.Book.{Book, entry, step, fed, fedAll}
 use Rattle.rules.specs.Needs.{needs}
-use Rattle.rules.specs.ReachExact.{AllOn, polls, Reads, OutOfReach, GivesEntry, OfTheBook, ReachExact}
-use Rattle.rules.proofs.Quorums.{is-heard, heard-on}
+use Rattle.rules.specs.Steps.{SameCopies}
+use Rattle.rules.specs.ReachExact.{AllOn, polls, Reads, OutOfReach, DoneGiving, OverLists, ReachExact}
+use Rattle.rules.proofs.Quorums.{heard-by}
 use Rattle.rules.proofs.Judged.{numbered}
-use Rattle.rules.proofs.Demand2.{demand2}
+use Rattle.rules.proofs.Demand1.{refusal-has-no-figures}
 use Rattle.rules.proofs.Copies.{heard-current, heard-grows}
 use Rattle.rules.proofs.Book.{Follows}
-use Rattle.rules.proofs.Laws.{done-allowed, bytes-kept}
+use Rattle.rules.proofs.Laws.{done-allowed, done-step, bytes-kept}
 use Rattle.rules.proofs.Kept.{after-sound, stays-sound}
 use Rattle.rules.proofs.Demand3.{goes-on, begins}
 use Rattle.rules.proofs.OnTheBus.{allHeard, canWrite, reads-told, zero-told, reach-figure, read-shows, asks-read}
 use Rattle.rules.proofs.OnTheBus.{exact-hears, exact-reads, exact-writes, exact-changes}
+use Rattle.rules.proofs.Alike.{alike-tables}
 use Rattle.rules.proofs.OutOfReach.{stays}
+
+-- ---- the open round does not matter
+any-round : (t u : Table) (i : ℕ) → sound t ≡ true → sound u ≡ true → SameCopies (view t) (view u) → view u .off ≡ view t .off
+    → reply u (reach i) ≡ reply t (reach i)
+unfolding view replyOf numberOf refusals tests figuresOf
+any-round t u i s s′ same off =
+    alike-tables .same-reply (view u) (withRound (view t) (view u .round)) (reach i) (record {
+      isSound = s′ ∙ sym s;
+      fits = λ n m. ap (λ l. eqb l (tableLength n m)) (sound-facts u s′ .size ∙ rw (same .n, same .m) (sym (sound-facts t s .size)));
+      contents = record { n = same .n; m = same .m; off = off; round = refl; copies = same .copies };
+    }) (λ _. is-sound u s′ .item)
 
 -- ---- a table that follows the book
 module _ (t : Table) (b : Book) (bytes : AreBytes t) (isSound : sound t ≡ true) (inv : Follows (view t) b) where
@@ -41,57 +60,82 @@ module _ (t : Table) (b : Book) (bytes : AreBytes t) (isSound : sound t ≡ true
   unfolding view
   asked = isSound
 
-  module _ (i : ℕ) (done : reply t (reach i) .number ≡ 0) where
-    item : i < now .m
-    unfolding needs
-    item = done-allowed t (reach i) done .1 .0
-
+  module _ (i : ℕ) (item : i < now .m) where
     figure : reply t (reach i) .first ≡ cond (allHeard now i) (cond (canWrite now i) 3 1) 0
     figure = reach-figure t bytes asked i item
 
     valid-there : (s : ℕ) → s < now .n → valid (now .n) (now .copies i s .config) ≡ true
     valid-there s l = is-sound t asked .configs i s item l
 
+    -- where not all of them are heard, no part of them is
+    none-heard : reply t (reach i) .first ≡ 0 → (set : ℕ) → set ⊆ onBus now → hears (now .copies i) set (now .n) ≡ false
+    none-heard e set inside =
+        fails (hears (now .copies i) set (now .n))
+        (λ h. clash (heard-grows (now .n) (now .copies i) _ _ _ set (inv .kept i item) valid-there (onBus now) inside h)
+        (zero-told (allHeard now i) (canWrite now i) .0 (sym figure ∙ e)))
+
     out-of-reach : reply t (reach i) .first ≡ 0 → OutOfReach t i
     out-of-reach e =
         record {
-          nobody = λ set inside g x. clash (heard-on now i set .1 (g, x)) (none-heard set inside);
-          unheard = λ busy own inside. demand2 .open-round t isSound busy .unheard .1
-              (λ f x. clash (rw own at (is-heard now f .1 x)) (none-heard (now .round .polled) inside));
-          until-link = λ idle calls p. stays now (is-sound t asked .small) i item none-heard calls t bytes isSound
-              (record { n = refl; m = refl; on = λ s m. m; copies = λ s l. refl; polled = λ busy. absurd (busy idle) }) p;
+          nobody = λ set inside g x. clash (heard-by now i set .1 (g, x)) (none-heard e set inside);
+          stays-unheard = λ polled calls p. stays i calls t bytes asked
+              (record { those = onBus now; on = λ s m. m; polled = polled; nobody = λ _. none-heard e }) p;
         }
-      where
-        none-heard : (set : ℕ) → set ⊆ onBus now → hears (now .copies i) set (now .n) ≡ false
-        none-heard set inside =
-            fails (hears (now .copies i) set (now .n))
-            (λ h. clash (heard-grows (now .n) (now .copies i) _ _ _ set (inv .kept i item) valid-there (onBus now) inside h)
-            (zero-told (allHeard now i) (canWrite now i) .0 (sym figure ∙ e)))
 
-    gives-entry : (order : List ℕ) → Reads (reply t (reach i) .first) → now .round .kind ≡ none → AllOn now order
-        → GivesEntry (entry (b .items) i) (reply (afterAll t (openRead i ∷ polls order)) commit)
+    gives-entry : (order : List ℕ) → Reads (reply t (reach i) .first) → AllOn now order → now .round .kind ≡ none
+        → DoneGiving (entry (b .items) i) (reply (afterAll t (openRead i ∷ polls order)) commit)
     unfolding needs afterAll
-    gives-entry order r idle all =
+    gives-entry order r all idle =
         let h = reads-told (allHeard now i) (canWrite now i) .0 (rw figure at r) in
         let opens = numbered .done-exactly t (openRead i) .1 (asked, (item, (idle, tt))) in
         let number = exact-reads t bytes i order all opens .finished r (λ x. x) tt in
         let shows = read-shows t bytes asked i item order all (after t (openRead i)) (asks-read t bytes i order all opens) number in
         let x = heard-current (now .n) (now .copies i) _ _ _ (onBus now) (inv .kept i item) valid-there h in
-        record {
-          number = number;
-          value = shows .0 ∙ x .value;
-          writes = shows .1 ∙ x .version;
-          changes = shows .2 ∙ x .generation;
-        }
+        (number, record { value = shows .0 ∙ x .value; writes = shows .1 ∙ x .version; changes = shows .2 ∙ x .generation })
 
-  of-the-book : OfTheBook t b
-  of-the-book = record { zero = out-of-reach; reads = λ i order done. gives-entry i done order }
+  -- where reach has a figure, the item is one of the table's
+  reached-item : (i : ℕ) → Reads (reply t (reach i) .first) → i < now .m
+  unfolding needs
+  reached-item i r = go (reply t (reach i) .number) refl
+    where
+      go : (k : ℕ) → reply t (reach i) .number ≡ k → i < now .m
+      go zero e = done-allowed t (reach i) e .1 .0
+      go (suc k) e =
+          let z = refusal-has-no-figures t (reach i) (λ q. let y : suc k ≡ 0 = sym e ∙ q in omega arith) .0 in
+          absurd (⊎-elim (λ q. let y : _≡_ {A = ℕ} 0 1 = sym z ∙ q in omega arith) (λ q. let y : _≡_ {A = ℕ} 0 3 = sym z ∙ q in omega arith) r)
+
+  reads-there : (i : ℕ) (order : List ℕ) → Reads (reply t (reach i) .first) → AllOn now order → now .round .kind ≡ none
+      → DoneGiving (entry (b .items) i) (reply (afterAll t (openRead i ∷ polls order)) commit)
+  reads-there i order r = gives-entry i (reached-item i r) order r
+
+-- the same after an abandon
+reads-instead : (t : Table) (b : Book) → AreBytes t → sound t ≡ true → Follows (view t) b → (i : ℕ) (order : List ℕ)
+    → Reads (reply t (reach i) .first) → AllOn (view t) order → (view t .round .kind ≡ none → ⊥)
+    → DoneGiving (entry (b .items) i) (reply (afterAll t (abandon ∷ openRead i ∷ polls order)) commit)
+unfolding needs afterAll fed view
+reads-instead t b bytes s inv i order r all busy =
+    let e = numbered .done-exactly t abandon .1 (s, (busy, tt)) in
+    let u = after t abandon in
+    let d = done-step t abandon e bytes tt in
+    let s′ = after-sound t abandon bytes tt e in
+    let follows : Follows (view u) (step b abandon) = rw e at (goes-on t b abandon bytes tt inv) in
+    reads-there u (step b abandon) (bytes-kept t abandon bytes tt) s′ follows i order
+    (rw (any-round t u i s s′ (d .copies) (d .off)) r) (rw (d .copies .n, d .off) all) (d .round .kind)
+
+over-lists : (t : Table) (b : Book) → AreBytes t → sound t ≡ true → Follows (view t) b → OverLists t b
+unfolding needs
+over-lists t b bytes s inv =
+    record {
+      zero = λ i done. out-of-reach t b bytes s inv i (done-allowed t (reach i) done .1 .0);
+      reads = reads-there t b bytes s inv;
+      reads-instead = reads-instead t b bytes s inv;
+    }
 
 -- ---- after every list of calls
 follows-all : (t : Table) (b : Book) (calls : List Call) → AreBytes t → AllPassable calls → sound t ≡ true → Follows (view t) b
-    → OfTheBook (afterAll t calls) (fedAll b calls (replies t calls))
+    → OverLists (afterAll t calls) (fedAll b calls (replies t calls))
 unfolding afterAll replies
-follows-all t b [] h p s inv = of-the-book t b h s inv
+follows-all t b [] h p s inv = over-lists t b h s inv
 follows-all t b (c ∷ calls) h p s inv =
     follows-all (after t c) (fed b c (reply t c .number)) calls (bytes-kept t c h (p .0)) (p .1) (stays-sound t c h (p .0) s) (goes-on t b c h (p .0) inv)
 
@@ -99,12 +143,13 @@ pub reach-exact : ReachExact
 unfolding afterAll replies fed
 reach-exact =
     record {
+      any-round = any-round;
       hears = λ t c i order b p o e all. exact-hears t b i order all c p o e;
       reads = λ t i order b e all. exact-reads t b i order all e;
       writes = λ t i value order places b p e all everywhere. exact-writes t b i order all value p e places everywhere;
       changes = λ t i target order places others b p e all everywhere elsewhere.
           exact-changes t b i order all target p e places others everywhere elsewhere;
-      of-the-book = λ t b n m value config calls h p e.
+      over-lists = λ t b n m value config calls h p e.
           let c = lay n m value config in
           follows-all (after t c) (fed b c (reply t c .number)) calls (bytes-kept t c h (p .0)) (p .1) (after-sound t c h (p .0) e)
           (rw e (begins t b n m value config h (p .0) e));

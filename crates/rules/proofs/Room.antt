@@ -8,9 +8,9 @@ use Rattle.basics.specs.Bytes.{AreBytes}
 use Rattle.quorum.specs.Configurations.{holdsWrite}
 use Rattle.layout.specs.Rounds.{withPoll}
 use Rattle.layout.specs.Newest.{byGeneration, hears}
-use Rattle.layout.specs.View.{Table, view, own}
+use Rattle.layout.specs.View.{Table, view, own, onBus}
 use Rattle.rules.specs.Calls.{Call}
-use Rattle.rules.specs.Figures.{figuresOf, noFigures, onBus}
+use Rattle.rules.specs.Figures.{figuresOf, noFigures}
 use Rattle.rules.specs.Reply.{reply}
 use Rattle.rules.specs.Passed.{Word}
 use Rattle.rules.specs.Needs.{Allowed}

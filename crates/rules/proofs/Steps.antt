@@ -2,7 +2,7 @@
 use mathlib.Core.Path.{_≡_, refl, sym, ap, _∙_}
 use mathlib.Core.Bool.{Bool, true, false, not, cond, _&&_}
 use mathlib.Core.List.{List}
-use mathlib.Core.Logic.{_↔_}
+use mathlib.Core.Logic.{_↔_, _⊎_, inl, inr}
 use Prim.Native.Nat.{ℕ, _≤_, _<_}
 use native.Mathlib.Omega.{arith}
 use lib.Dec.{ltb}
@@ -14,7 +14,7 @@ use Rattle.quorum.proofs.Promise.{promise}
 use Rattle.layout.specs.Fields.{Kind, none, read, write, change, Round}
 use Rattle.layout.specs.Newest.{byGeneration, hears}
 use Rattle.layout.specs.Rounds.{withPolled, withPuts}
-use Rattle.layout.specs.View.{State, own, heard, SameContents}
+use Rattle.layout.specs.View.{State, onBus, own, heard, SameContents}
 use Rattle.layout.specs.Updates.{noTarget}
 use Rattle.layout.proofs.Fields.{opened}
 use Rattle.layout.proofs.Soundness.{StateSound}
@@ -22,13 +22,13 @@ use Rattle.layout.proofs.Held.{withOff, withRound}
 use Rattle.layout.proofs.Newer.{by-generation, hears-same}
 use Rattle.layout.proofs.Stored.{stored}
 use Rattle.rules.specs.Calls.{lay, poll, put, commit, link, reach}
-use Rattle.rules.specs.Figures.{figuresOf, closing, onBus}
+use Rattle.rules.specs.Figures.{figuresOf, closing}
 use Rattle.rules.specs.After.{stores}
-use Rattle.rules.specs.Demand2.{QuorumIn, Found, HeardOn}
+use Rattle.rules.specs.Demand2.{QuorumIn, Found, HeardBy}
 use Rattle.rules.specs.Steps.{Joined, Removed, SameCopies, SameOrder, Fresh, Laid, Opened, Polled, Put, Linked, Closing, Committed, Reached}
 use Rattle.rules.specs.declared.Reply.{Reply}
 use Rattle.rules.proofs.Demand1.{Shows}
-use Rattle.rules.proofs.Quorums.{version-found, generation-found, heard-exactly, heard-on}
+use Rattle.rules.proofs.Quorums.{version-found, generation-found, heard-exactly, heard-by}
 use Rattle.rules.proofs.States.{next}
 
 -- ---- what stays, and what is fresh
@@ -94,6 +94,11 @@ module _ (H W : ℕ → Type 0) where
     (λ e. absurd (omega arith), λ h. clash (p .1 (h .0, h .1)) refl),
     (λ e g x. clash (p .1 (g, x)) refl, λ h. refl),
   )
+
+three-only : (a b : Bool) → (three a b ≡ 0) ⊎ ((three a b ≡ 1) ⊎ (three a b ≡ 3))
+three-only true true = inr (inr refl)
+three-only true false = inr (inl refl)
+three-only false b = inl refl
 
 -- ---- poll
 -- the figure is by the state after it
@@ -198,16 +203,15 @@ module _ (v : State) (i : ℕ) (f : StateSound v) where
   unfolding figuresOf
   reach-step r q =
       let on = onBus v in
-      let z = three-told (HeardOn v i on) (λ g. QuorumIn (writeSet (v .copies i g .config)) on) (hears (v .copies i) on (v .n))
-      (holdsWrite (byGeneration (v .copies i) on (v .n) .config) on) (heard-on v i on)
+      let z = three-told (HeardBy v i on) (λ g. QuorumIn (writeSet (v .copies i g .config)) on) (hears (v .copies i) on (v .n))
+      (holdsWrite (byGeneration (v .copies i) on (v .n) .config) on) (heard-by v i on)
       (λ g h. rw (by-generation (v .copies i) on (v .n) g (h .0)) (promise .holds-write (v .copies i g .config) on)) in
       record {
-        on = on;
         isOn = on-members;
-        reads = rw (q .0) (z .0);
-        writes = rw (q .0) (z .1);
         neither = rw (q .0) (z .2);
-        noOther = (q .1, q .2);
+        readsOnly = rw (q .0) (z .0);
+        writes = rw (q .0) (z .1);
+        noOther = (rw (q .0) (three-only (hears (v .copies i) on (v .n)) (holdsWrite (byGeneration (v .copies i) on (v .n) .config) on)), q .1, q .2);
       }
 
 -- ---- lay

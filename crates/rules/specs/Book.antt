@@ -1,5 +1,6 @@
 -- The book of one copy (document 01): the one-copy reference model that demand 3 holds the store to.
 -- "It is fed each call with its arguments and the number of its reply, nothing else."
+use mathlib.Core.Path.{_≡_}
 use mathlib.Core.List.{List, [], _∷_}
 use Prim.Native.Nat.{ℕ, zero, suc, _+_}
 use lib.ListN.{getD, set, replicate}
@@ -57,7 +58,13 @@ unfoldable pub fed : Book → Call → ℕ → Book
 fed b c zero = step b c
 fed b c (suc k) = b
 
--- the book after a list of calls, fed each of them with the number of its reply
+-- a reply's figures are what the book has for an item
+pub record Gives (e : Entry) (r : Reply) : Type 0 where
+  pub value : r .first ≡ e .value
+  pub writes : r .second ≡ e .writes
+  pub changes : r .third ≡ e .changes
+
+-- the book after a list of calls, fed each of them with the number of its reply; there are as many replies as calls
 abbrev pub fedAll : Book → List Call → List Reply → Book
 fedAll b [] rest = b
 fedAll b (c ∷ calls) [] = b

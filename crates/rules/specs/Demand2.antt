@@ -10,7 +10,7 @@ use Rattle.quorum.specs.Configurations.{readSet, writeSet}
 use Rattle.basics.specs.Tests.{Some}
 use Rattle.quorum.specs.Promise.{LiesIn}
 use Rattle.layout.specs.Newest.{IsNewest}
-use Rattle.layout.specs.Fields.{Kind, none, read, write, change}
+use Rattle.layout.specs.Fields.{Copy, Kind, none, read, write, change}
 use Rattle.layout.specs.Soundness.{sound}
 use Rattle.layout.specs.View.{Table, State, view, own}
 use Rattle.rules.specs.Calls.{commit}
@@ -27,13 +27,17 @@ pub record Found (v : State) : Type 0 where
   pub newestGeneration : IsNewest (λ s. own v s .generation) (v .round .polled) (v .n) g
   pub newestVersion : IsNewest (λ s. own v s .version) (v .round .polled) (v .n) b
 
--- a read quorum of the configuration found lies within the polled set
-abbrev pub Heard : (v : State) → Found v → Type 0
-Heard v f = QuorumIn (readSet (own v (f .g) .config)) (v .round .polled)
+-- a read quorum of the configuration of station g's copy lies within a station set
+abbrev pub ReadQuorum : (ℕ → Copy) → ℕ → ℕ → Type 0
+ReadQuorum copies g set = QuorumIn (readSet (copies g .config)) set
 
--- the same of any item and any stations: polling them finds the configuration of station g, and is heard
-abbrev pub HeardOn : State → ℕ → ℕ → ℕ → Type 0
-HeardOn v i set g = IsNewest (λ s. v .copies i s .generation) set (v .n) g × QuorumIn (readSet (v .copies i g .config)) set
+-- one of the configuration found lies within the polled set
+abbrev pub Heard : (v : State) → Found v → Type 0
+Heard v f = ReadQuorum (own v) (f .g) (v .round .polled)
+
+-- the same of any item and any station set: polling it finds the configuration of station g, and is heard
+abbrev pub HeardBy : State → ℕ → ℕ → ℕ → Type 0
+HeardBy v i set g = IsNewest (λ s. v .copies i s .generation) set (v .n) g × ReadQuorum (v .copies i) g set
 
 -- the counter that the round must raise is spent
 abbrev pub Spent : (v : State) → Found v → Kind → Type 0

@@ -9,7 +9,7 @@ use Rattle.layout.specs.View.{Table}
 use Rattle.rules.specs.Calls.{Call, lay, commit}
 use Rattle.rules.specs.Reply.{reply}
 use Rattle.rules.specs.Lists.{replies, AllPassable}
-use Rattle.rules.specs.Book.{Book, Noted, read, write, change, entry, fed}
+use Rattle.rules.specs.Book.{Book, Noted, read, write, change, entry, fed, Gives}
 use Rattle.rules.specs.declared.Reply.{Reply}
 
 -- the item of a noted round
@@ -23,9 +23,7 @@ pub data NotedItem : Noted → ℕ → Type 0 where
 pub record Agrees (before after : Book) (r : Reply) : Type 0 where
   pub item : ℕ
   pub noted : NotedItem (before .noted) item
-  pub value : r .first ≡ entry (after .items) item .value
-  pub writes : r .second ≡ entry (after .items) item .writes
-  pub changes : r .third ≡ entry (after .items) item .changes
+  pub gives : Gives (entry (after .items) item) r
 
 -- the claim over a list of calls and the replies to them, from a book on: the book is fed each call and the number of its reply
 abbrev pub OneCopy : Book → List Call → List Reply → Type 0

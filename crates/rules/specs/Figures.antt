@@ -1,12 +1,11 @@
 -- The figures of each call that is done (document 01, "The calls").
 use mathlib.Core.Bool.{cond}
 use Prim.Native.Nat.{ℕ, _+_}
-use Rattle.quorum.specs.Sets.{full, minus}
 use Rattle.quorum.specs.Configurations.{holdsWrite}
 use Rattle.layout.specs.Rounds.{withPoll}
 use Rattle.layout.specs.Fields.{Copy, Kind, none, read, write, change}
 use Rattle.layout.specs.Newest.{byGeneration, hears}
-use Rattle.layout.specs.View.{State, own, foundByVersion, foundByGeneration}
+use Rattle.layout.specs.View.{State, onBus, own, foundByVersion, foundByGeneration}
 use Rattle.rules.specs.Calls.{Call, lay, openRead, openWrite, openChange, poll, put, commit, abandon, link, reach}
 
 pub record Figures : Type 0 where
@@ -33,9 +32,6 @@ closing v change = record { first = foundByVersion v .value; second = foundByVer
 -- copies with equal generations that of the lowest station counts, and with nobody on the bus nothing is heard. An open round does not matter.
 abbrev pub reachOf : (ℕ → Copy) → ℕ → ℕ → ℕ
 reachOf copies on n = cond (hears copies on n) (cond (holdsWrite (byGeneration copies on n .config) on) 3 1) 0
-
-abbrev pub onBus : State → ℕ
-onBus v = minus (full (v .n)) (v .off)
 
 abbrev pub reachFigure : State → ℕ → ℕ
 reachFigure v i = reachOf (v .copies i) (onBus v) (v .n)

@@ -1,6 +1,7 @@
--- Reach is exact (document 02, 2026-03): its figure says what rounds on the item can do. On every table it says whether a round that polls every station on
--- the bus is heard, and whether a write or a change that also has puts at each of them finishes. Over every list of demand 3 it says more: where it is 0,
--- no part of the stations on the bus is heard either, and where it is 1 or 3, the read that polls them all gives the book's figures.
+-- Reach is exact (document 02, 2026-03): its figure says what a round that polls only stations on the bus can do. On every sound table with no open round
+-- the polls of all stations on the bus are heard exactly if it is 1 or 3, and with data puts at all of them a write finishes exactly if it is 3 and no version
+-- is spent; a change needs a write set of its target as well. Over every list of demand 3 it says more: where it is 0, no part of the stations on the bus is
+-- heard either, and where it is 1 or 3, the read that polls them all gives the book's figures.
 use mathlib.Core.Path.{_≡_}
 use mathlib.Core.Bool.{Bool, true, false, _||_}
 use mathlib.Core.List.{List, [], _∷_, _++_}
@@ -12,16 +13,16 @@ use Rattle.quorum.specs.Sets.{member}
 use Rattle.quorum.specs.Configurations.{writeSet}
 use Rattle.quorum.specs.Promise.{_⊆_}
 use Rattle.layout.specs.Fields.{Copy, none}
-use Rattle.layout.specs.View.{Table, State, view}
-use Rattle.rules.specs.Calls.{Call, lay, openRead, openWrite, openChange, poll, put, commit, reach}
-use Rattle.rules.specs.Calls.{isLay, dataSort, configSort}
+use Rattle.layout.specs.Soundness.{sound}
+use Rattle.layout.specs.View.{Table, State, view, onBus}
+use Rattle.rules.specs.Calls.{Call, lay, openRead, openWrite, openChange, poll, put, commit, abandon, reach}
+use Rattle.rules.specs.Calls.{dataSort, configSort}
 use Rattle.rules.specs.Passed.{Passable}
-use Rattle.rules.specs.Figures.{onBus}
 use Rattle.rules.specs.Reply.{reply, after}
 use Rattle.rules.specs.Lists.{replies, afterAll, AllPassable}
-use Rattle.rules.specs.Book.{Book, Entry, entry, fedAll}
-use Rattle.rules.specs.Demand2.{QuorumIn, HeardOn}
-use Rattle.rules.specs.OffAtFirst.{onAfter}
+use Rattle.rules.specs.Book.{Book, Entry, entry, Gives, fedAll}
+use Rattle.rules.specs.Demand2.{QuorumIn, HeardBy}
+use Rattle.rules.specs.Steps.{SameCopies}
 use Rattle.rules.specs.declared.Reply.{Reply}
 
 -- ---- all stations on the bus, in any order
@@ -30,7 +31,7 @@ abbrev pub among : List ℕ → ℕ → Bool
 among [] s = false
 among (k ∷ rest) s = eqb s k || among rest s
 
--- the list has all stations on the bus, and no others; one may come twice. Their set has the members that Steps.antt names.
+-- the list has all stations on the bus, and no others; one may come twice
 abbrev pub AllOn : State → List ℕ → Type 0
 AllOn v order = (s : ℕ) → among order s ≡ member (onBus v) s
 
@@ -44,7 +45,7 @@ puts sort [] = []
 puts sort (s ∷ rest) = put s sort ∷ puts sort rest
 
 -- ---- what the figure says of one table
--- an opening of item i. It is done on a sound table with no open round that has the item; an open change needs a valid target too (Needs.antt).
+-- an opening of item i. It is done on a sound table that has the item and has no open round; an open change needs a valid target too (Needs.antt).
 pub data Opens : Call → ℕ → Type 0 where
   of-read : {i : ℕ} → Opens (openRead i) i
   of-write : {i value : ℕ} → Opens (openWrite i value) i
@@ -81,56 +82,55 @@ abbrev pub SpentOn : (Copy → ℕ) → State → ℕ → Type 0
 SpentOn counter v i = (s : ℕ) × (member (onBus v) s ≡ true) × (counter (v .copies i s) ≡ 2 ^ 64 - 1)
 
 -- ---- what it says over a list of demand 3
--- the call is no lay, and no station that is off comes on by it
-abbrev pub BringsNone : State → Call → Type 0
-BringsNone v c = (isLay c ≡ false) × ((s : ℕ) → member (v .off) s ≡ true → onAfter s false c ≡ false)
-
--- each commit of a round on item i gets 8, up to the first call that is done and is a lay or brings a station on
+-- each commit of a round on item i gets 8, up to the first call by which a station comes on
 abbrev pub StaysUnheard : ℕ → Table → List Call → Type 0
 StaysUnheard i t [] = Unit {0}
 StaysUnheard i t (c ∷ calls) =
     (c ≡ commit → (view t .round .kind ≡ none → ⊥) → view t .round .item ≡ i → reply t commit .number ≡ 8)
-    × ((reply t c .number ≡ 0 → BringsNone (view t) c) → StaysUnheard i (after t c) calls)
+    × (onBus (view (after t c)) ⊆ onBus (view t) → StaysUnheard i (after t c) calls)
 
 pub record OutOfReach (t : Table) (i : ℕ) : Type 0 where
-  -- no stations on the bus would be heard, and a round on the item that has polled only such gets 8
-  pub nobody : (set : ℕ) → set ⊆ onBus (view t) → (g : ℕ) → HeardOn (view t) i set g → ⊥
-  pub unheard : (view t .round .kind ≡ none → ⊥) → view t .round .item ≡ i → view t .round .polled ⊆ onBus (view t) → reply t commit .number ≡ 8
-  -- where no round is open, none on it finishes before a station comes on
-  pub until-link : view t .round .kind ≡ none → (calls : List Call) → AllPassable calls → StaysUnheard i t calls
+  -- no set of stations on the bus would be heard
+  pub nobody : (set : ℕ) → set ⊆ onBus (view t) → (g : ℕ) → HeardBy (view t) i set g → ⊥
+  -- so no round on the item finishes before a station comes on, if one that is open has polled only stations on the bus
+  pub stays-unheard : ((view t .round .kind ≡ none → ⊥) → view t .round .item ≡ i → view t .round .polled ⊆ onBus (view t))
+      → (calls : List Call) → AllPassable calls → StaysUnheard i t calls
 
--- the read gives what the book has for the item
-pub record GivesEntry (e : Entry) (r : Reply) : Type 0 where
-  pub number : r .number ≡ 0
-  pub value : r .first ≡ e .value
-  pub writes : r .second ≡ e .writes
-  pub changes : r .third ≡ e .changes
+-- a commit that is done, and gives what the book has for the item
+abbrev pub DoneGiving : Entry → Reply → Type 0
+DoneGiving e r = (r .number ≡ 0) × Gives e r
 
-pub record OfTheBook (t : Table) (b : Book) : Type 0 where
+-- the table t and the book after a list
+pub record OverLists (t : Table) (b : Book) : Type 0 where
   pub zero : (i : ℕ) → reply t (reach i) .number ≡ 0 → reply t (reach i) .first ≡ 0 → OutOfReach t i
-  pub reads : (i : ℕ) (order : List ℕ) → reply t (reach i) .number ≡ 0 → Reads (reply t (reach i) .first)
-      → view t .round .kind ≡ none → AllOn (view t) order
-      → GivesEntry (entry (b .items) i) (reply (afterAll t (openRead i ∷ polls order)) commit)
+  -- the read that polls all stations on the bus, where no round is open, and where one is abandoned for it
+  pub reads : (i : ℕ) (order : List ℕ) → Reads (reply t (reach i) .first) → AllOn (view t) order → view t .round .kind ≡ none
+      → DoneGiving (entry (b .items) i) (reply (afterAll t (openRead i ∷ polls order)) commit)
+  pub reads-instead : (i : ℕ) (order : List ℕ) → Reads (reply t (reach i) .first) → AllOn (view t) order → (view t .round .kind ≡ none → ⊥)
+      → DoneGiving (entry (b .items) i) (reply (afterAll t (abandon ∷ openRead i ∷ polls order)) commit)
 
 pub record ReachExact : Type 0 where
+  -- the open round does not matter: on sound tables with the same stations on the bus and the same copies reach replies the same
+  pub any-round : (t u : Table) (i : ℕ) → sound t ≡ true → sound u ≡ true → SameCopies (view t) (view u) → view u .off ≡ view t .off
+      → reply u (reach i) ≡ reply t (reach i)
   -- an opening of the item, and polls of all stations on the bus
   pub hears : (t : Table) (c : Call) (i : ℕ) (order : List ℕ) → AreBytes t → Passable c → Opens c i → reply t c .number ≡ 0 → AllOn (view t) order
       → PollsSay (reply t (reach i) .first) (replies (after t c) (polls order))
-  -- the read that they are polls of
+  -- the commit of a read with those polls
   pub reads : (t : Table) (i : ℕ) (order : List ℕ) → AreBytes t → reply t (openRead i) .number ≡ 0 → AllOn (view t) order
       → Closes (reply t (reach i) .first) (reply (afterAll t (openRead i ∷ polls order)) commit .number) ⊥ (Unit {0})
-  -- the write, with data puts at all of them, in any order too
+  -- that of a write, with data puts at all of them, in any order too
   pub writes : (t : Table) (i value : ℕ) (order places : List ℕ) → AreBytes t → Passable (openWrite i value) → reply t (openWrite i value) .number ≡ 0
       → AllOn (view t) order → AllOn (view t) places
       → Closes (reply t (reach i) .first) (reply (afterAll t (openWrite i value ∷ polls order ++ puts dataSort places)) commit .number)
       (SpentOn (λ c. c .version) (view t) i) (reply t (reach i) .first ≡ 3)
-  -- the change, with both puts at all of them: they must hold a write set of the target as well
+  -- that of a change, with data puts and then configuration puts at all of them: they must hold a write set of the target as well
   pub changes : (t : Table) (i : ℕ) (target order places others : List ℕ) → AreBytes t → Passable (openChange i target)
       → reply t (openChange i target) .number ≡ 0 → AllOn (view t) order → AllOn (view t) places → AllOn (view t) others
       → Closes (reply t (reach i) .first)
       (reply (afterAll t (openChange i target ∷ polls order ++ (puts dataSort places ++ puts configSort others))) commit .number)
       (SpentOn (λ c. c .generation) (view t) i) ((reply t (reach i) .first ≡ 3) × QuorumIn (writeSet target) (onBus (view t)))
   -- over every list of demand 3, refused calls and further lays included, whatever the book held before it
-  pub of-the-book : (t : Table) (b : Book) (n m value : ℕ) (config : List ℕ) (calls : List Call)
+  pub over-lists : (t : Table) (b : Book) (n m value : ℕ) (config : List ℕ) (calls : List Call)
       → AreBytes t → AllPassable (lay n m value config ∷ calls) → reply t (lay n m value config) .number ≡ 0
-      → OfTheBook (afterAll t (lay n m value config ∷ calls)) (fedAll b (lay n m value config ∷ calls) (replies t (lay n m value config ∷ calls)))
+      → OverLists (afterAll t (lay n m value config ∷ calls)) (fedAll b (lay n m value config ∷ calls) (replies t (lay n m value config ∷ calls)))

@@ -6,20 +6,20 @@
 use mathlib.Core.Path.{_≡_}
 use mathlib.Core.Bool.{true, false, not, _&&_, _||_}
 use mathlib.Core.List.{List}
-use mathlib.Core.Logic.{_↔_}
+use mathlib.Core.Logic.{_↔_, _⊎_}
 use Prim.Native.Nat.{ℕ, _+_, _<_}
 use lib.Dec.{ltb, eqb}
 use Rattle.basics.specs.Bytes.{AreBytes}
 use Rattle.quorum.specs.Sets.{member}
 use Rattle.quorum.specs.Configurations.{writeSet}
 use Rattle.layout.specs.Fields.{Kind, none, read, write, change, Round}
-use Rattle.layout.specs.View.{Table, State, view, own}
+use Rattle.layout.specs.View.{Table, State, view, onBus, own}
 use Rattle.layout.specs.Updates.{noTarget}
 use Rattle.rules.specs.Calls.{Call, lay, openRead, openWrite, openChange, poll, put, commit, abandon, link, reach}
 use Rattle.rules.specs.Calls.{dataSort, configSort, offState, onState}
 use Rattle.rules.specs.Passed.{Passable}
 use Rattle.rules.specs.Reply.{reply, after}
-use Rattle.rules.specs.Demand2.{QuorumIn, Found, Heard, HeardOn}
+use Rattle.rules.specs.Demand2.{QuorumIn, Found, Heard, HeardBy}
 use Rattle.rules.specs.declared.Reply.{Reply}
 
 -- ---- sets: b is a with station s, and b is a without it
@@ -131,13 +131,12 @@ pub record Committed (v w : State) (r : Reply) : Type 0 where
 -- ---- reach, document 02, 2026-03: "judged by what polling every station on the bus finds: 1 if that is heard, 3 if they also hold a write set of the
 -- configuration found, else 0". What that means for rounds is in ReachExact.antt.
 pub record Reached (v : State) (i : ℕ) (r : Reply) : Type 0 where
-  -- the stations on the bus, as the set with these members; polling them finds the configuration of a station g, and nothing where there are none
-  pub on : ℕ
-  pub isOn : (s : ℕ) → member on s ≡ (ltb s (v .n) && not (member (v .off) s))
-  pub reads : (r .first ≡ 1) ↔ ((g : ℕ) × HeardOn v i on g × (QuorumIn (writeSet (v .copies i g .config)) on → ⊥))
-  pub writes : (r .first ≡ 3) ↔ ((g : ℕ) × HeardOn v i on g × QuorumIn (writeSet (v .copies i g .config)) on)
-  pub neither : (r .first ≡ 0) ↔ ((g : ℕ) → HeardOn v i on g → ⊥)
-  pub noOther : (r .second ≡ 0) × (r .third ≡ 0)
+  -- the stations on the bus; polling them finds the configuration of a station g, and nothing where there are none
+  pub isOn : (s : ℕ) → member (onBus v) s ≡ (ltb s (v .n) && not (member (v .off) s))
+  pub neither : (r .first ≡ 0) ↔ ((g : ℕ) → HeardBy v i (onBus v) g → ⊥)
+  pub readsOnly : (r .first ≡ 1) ↔ ((g : ℕ) × HeardBy v i (onBus v) g × (QuorumIn (writeSet (v .copies i g .config)) (onBus v) → ⊥))
+  pub writes : (r .first ≡ 3) ↔ ((g : ℕ) × HeardBy v i (onBus v) g × QuorumIn (writeSet (v .copies i g .config)) (onBus v))
+  pub noOther : ((r .first ≡ 0) ⊎ ((r .first ≡ 1) ⊎ (r .first ≡ 3))) × (r .second ≡ 0) × (r .third ≡ 0)
 
 -- the state before a call, the state after it, and its reply
 abbrev pub Step : Call → State → State → Reply → Type 0
