@@ -303,7 +303,7 @@ static inline const uint8_t *newest(const uint8_t *copies, uint64_t stations, si
     return best;
 }
 
-/* The polled copy with the configuration found; null if the round is unheard. */
+/* The polled copy with the configuration found; null if the polled stations are unheard. */
 static inline const uint8_t *heard(const uint8_t *copies, uint64_t polled)
 {
     if (polled == 0) {
@@ -582,13 +582,11 @@ ospreyscreen_reply opt_reach(const uint8_t *table, size_t len, uint64_t item)
     if (item >= h.m) {
         return refused(OSPREYSCREEN_NO_SUCH_THING);
     }
-    uint64_t all = (UINT64_C(1) << h.n) - 1;
-    uint64_t on = all & ~h.off;
-    const uint8_t *found = newest(table + item_start(&h, item), all, GENERATION);
-    configuration c = get_configuration(found + CONFIGURATION);
-    if (!holds(on, c.read)) {
+    uint64_t on = ((UINT64_C(1) << h.n) - 1) & ~h.off;
+    const uint8_t *found = heard(table + item_start(&h, item), on);
+    if (found == NULL) {
         return done(OSPREYSCREEN_REACH_NOTHING, 0, 0);
     }
-    bool writable = holds(on, c.write);
+    bool writable = holds(on, get_configuration(found + CONFIGURATION).write);
     return done(writable ? OSPREYSCREEN_REACH_READ_AND_WRITE : OSPREYSCREEN_REACH_READ, 0, 0);
 }

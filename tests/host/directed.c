@@ -133,12 +133,26 @@ static void put_both(generator *g, unsigned n)
     put_all(g, n, OSPREYSCREEN_PUT_CONFIGURATION);
 }
 
-/* Links a station of the set, and takes it out of the set. */
-static void link_one(generator *g, unsigned *set)
+static void put_at(generator *g, unsigned set, uint64_t sort)
+{
+    for (unsigned station = 0; set >> station != 0; station++) {
+        if ((set >> station & 1) != 0) {
+            make(g, call_put(station, sort));
+        }
+    }
+}
+
+/* Links a station of the set, on or off, and takes it out of the set. */
+static void link_one_to(generator *g, unsigned *set, uint64_t state)
 {
     unsigned station = station_of(&g->source, *set);
-    make(g, call_link(station, OSPREYSCREEN_LINK_ON));
+    make(g, call_link(station, state));
     *set &= ~(1u << station);
+}
+
+static void link_one(generator *g, unsigned *set)
+{
+    link_one_to(g, set, OSPREYSCREEN_LINK_ON);
 }
 
 /* Links the stations of the set, in any order. */
@@ -797,6 +811,68 @@ static void moves(generator *g, uint64_t index)
     }
 }
 
+/* The stations go off or return one by one, and item 0's reach is asked. */
+static void link_and_reach(generator *g, unsigned set, uint64_t state)
+{
+    while (set != 0) {
+        link_one_to(g, &set, state);
+        make(g, call_reach(0));
+    }
+}
+
+static void leave_and_return(generator *g, unsigned set)
+{
+    link_and_reach(g, set, OSPREYSCREEN_LINK_OFF);
+    link_and_reach(g, set, OSPREYSCREEN_LINK_ON);
+}
+
+/* A change from here to there, of which one write set of the old configuration
+ * is told and no more. Those who know go off and return, with no round open and
+ * in one that has polled them. */
+static void tell_few(generator *g, unsigned n, const uint8_t *here, const uint8_t *there)
+{
+    rng *r = &g->source;
+    unsigned told = configuration_write_set(here, (unsigned)rng_below(r, PLACES));
+    unsigned moved = configuration_write_set(there, (unsigned)rng_below(r, PLACES));
+
+    record_table(&g->to, OSPREYSCREEN_TABLE_LENGTH(n, 1u), draw_place(r), false);
+    lay(g, n, 1, here, CONFIGURATION);
+    link_all(g, all_stations(n));
+    open_change(g, 0, there, CONFIGURATION);
+    poll_all(g, n);
+    put_at(g, moved, OSPREYSCREEN_PUT_DATA);
+    put_at(g, told, OSPREYSCREEN_PUT_CONFIGURATION);
+    make(g, call_commit());
+    make(g, call_reach(0));
+    leave_and_return(g, told);
+    make(g, call_open_write(0, rng_next(r)));
+    poll_all(g, n);
+    leave_and_return(g, told);
+    put_all(g, n, OSPREYSCREEN_PUT_DATA);
+    make(g, call_commit());
+}
+
+/* The house of request 2026-03; then any, with the new quorums at stations that
+ * no old set names, or at any stations. The book covers these. */
+static void left_behind(generator *g, uint64_t index)
+{
+    rng *r = &g->source;
+    unsigned n = 2 + (unsigned)index % (STATIONS - 1);
+    unsigned all = all_stations(n);
+    unsigned low = draw_some(r, all);
+    uint8_t here[CONFIGURATION] = {[2 * READ_SIDE] = 0x3, [2 * WRITE_SIDE] = 0x3};
+    uint8_t there[CONFIGURATION] = {[2 * READ_SIDE] = 0x4, [2 * WRITE_SIDE] = 0xC};
+
+    if (index == 0) {
+        tell_few(g, 4, here, there);
+        return;
+    }
+    low = low == all ? 1 : low;
+    configuration_among(r, low, here);
+    configuration_among(r, index % 2 == 0 ? all : all & ~low, there);
+    tell_few(g, n, here, there);
+}
+
 /* ---- Stations not linked since the lay ---- */
 
 /* Lists on a table of every n and some m, with rounds of one kind. */
@@ -931,6 +1007,7 @@ typedef struct {
 static const group GROUPS[] = {
     {many_refusals, (uint64_t)64 * 7 * 3},
     {moves, (uint64_t)20 * (STATIONS - 1)},
+    {left_behind, (uint64_t)40 * (STATIONS - 1)},
     {first_links, LAID_LISTS},
     {late_links, LAID_LISTS},
     {laid_again, LAID_LISTS},

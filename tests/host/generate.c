@@ -231,6 +231,47 @@ static call first_link(generator *g, unsigned stations)
     return call_link(station, OSPREYSCREEN_LINK_ON);
 }
 
+/* The stations on the bus that have the item's newest generation, where that
+ * configuration would give reach another figure once they are off; else none. */
+static unsigned last_to_know(const outlook *o, unsigned item)
+{
+    unsigned all = all_stations(o->n);
+    const uint8_t *newest = outlook_newest(o, item, all, COUNTER_GENERATION) + COUNTER_GENERATION;
+    outlook left = *o;
+
+    for (unsigned station = 0; station < o->n; station++) {
+        if (memcmp(outlook_copy(o, item, station) + COUNTER_GENERATION, newest, 8) == 0) {
+            left.on &= ~(1u << station);
+        }
+    }
+    bool differs = outlook_reach(&left, item, left.on) != outlook_reach(&left, item, all);
+    return differs ? o->on & ~left.on : 0;
+}
+
+/* The next of the stations that go off together, and behind the last the reach
+ * of the item. */
+static call next_leaving(generator *g, const outlook *o)
+{
+    g->leaving &= o->on;
+    return g->leaving != 0 ? call_link(station_of(&g->source, g->leaving), OSPREYSCREEN_LINK_OFF)
+                           : call_reach(g->left_item);
+}
+
+/* The reach of an item; those that are the last to know of its last change
+ * leave first. */
+static call leave(generator *g, const outlook *o)
+{
+    g->left_item = (unsigned)rng_below(&g->source, o->m);
+    g->leaving = last_to_know(o, g->left_item);
+    return next_leaving(g, o);
+}
+
+static call drop_station(rng *r, const outlook *o)
+{
+    bool any = o->on == 0 || rng_one_in(r, 10);
+    return call_link(any ? rng_below(r, o->n) : station_of(r, o->on), OSPREYSCREEN_LINK_OFF);
+}
+
 call generate_call(generator *g)
 {
     rng *r = &g->source;
@@ -243,10 +284,11 @@ call generate_call(generator *g)
     if ((g->to_link & o.off) != 0 && !rng_one_in(r, 12)) {
         return first_link(g, g->to_link & o.off);
     }
+    if (g->leaving != 0) {
+        return next_leaving(g, &o);
+    }
     if (rng_one_in(r, g->drops)) {
-        return o.on == 0 || rng_one_in(r, 10)
-                   ? call_link((unsigned)rng_below(r, o.n), OSPREYSCREEN_LINK_OFF)
-                   : call_link(station_of(r, o.on), OSPREYSCREEN_LINK_OFF);
+        return drop_station(r, &o);
     }
     switch (rng_below(r, 60)) {
     case 0:
@@ -259,8 +301,9 @@ call generate_call(generator *g)
     case 6:
         return return_station(g, &o);
     case 7:
-    case 8:
         return call_reach(rng_below(r, o.m));
+    case 8:
+        return leave(g, &o);
     case 9: /* a commit before its time */
         return call_commit();
     default:
@@ -291,6 +334,9 @@ void generate_step(generator *g, const call *c)
     g->last = record_call(&g->to, c, draw_place(&g->source)).number;
     if (c->code == OSPREYSCREEN_LAY && g->last == OSPREYSCREEN_DONE) {
         g->to_link = choose_links(&g->source, c->numbers[ARGUMENT_N]);
+    }
+    if (c->code == OSPREYSCREEN_LAY || g->last != OSPREYSCREEN_DONE) {
+        g->leaving = 0;
     }
 }
 

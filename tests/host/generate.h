@@ -2,9 +2,10 @@
  * Random lists for the differential test. After a lay most stations are
  * linked at once, the others when a station returns or a round needs them.
  * Most calls take the open round a step towards its commit; drops, returns,
- * abandoned rounds, changes that move the quorums away and calls with
- * arguments out of range come between. Some lists have their tables damaged,
- * tied or raised by hand on the way.
+ * abandoned rounds, changes that move the quorums away, stations that leave
+ * with what they alone know and calls with arguments out of range come
+ * between. Some lists have their tables damaged, tied or raised by hand on the
+ * way.
  */
 #ifndef GENERATE_H
 #define GENERATE_H
@@ -21,6 +22,9 @@ typedef struct {
     /* How often stations drop: once in so many calls. */
     unsigned drops;
     unsigned to_link; /* the stations that are linked first after the lay */
+    /* The stations that go off together, and the item whose reach is asked then. */
+    unsigned leaving;
+    unsigned left_item;
     uint64_t last; /* the number of the last reply */
     /* The bytes of the last call's configuration. */
     uint8_t config[CONFIGURATION_ROOM];

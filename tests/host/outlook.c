@@ -69,3 +69,13 @@ const uint8_t *outlook_configuration(const outlook *o, unsigned item, unsigned a
     const uint8_t *newest = outlook_newest(o, item, among, COUNTER_GENERATION);
     return newest == NULL ? NULL : newest + CONFIGURATION_IN;
 }
+
+uint64_t outlook_reach(const outlook *o, unsigned item, unsigned among)
+{
+    const uint8_t *config = outlook_configuration(o, item, among);
+    if (config == NULL || !configuration_holds(config, READ_SIDE, o->on)) {
+        return OSPREYSCREEN_REACH_NOTHING;
+    }
+    return configuration_holds(config, WRITE_SIDE, o->on) ? OSPREYSCREEN_REACH_READ_AND_WRITE
+                                                          : OSPREYSCREEN_REACH_READ;
+}

@@ -38,4 +38,7 @@ bool outlook_tie(const outlook *o, unsigned item, unsigned among, counter by);
 /* The configuration of the newest copy, or a null pointer. */
 const uint8_t *outlook_configuration(const outlook *o, unsigned item, unsigned among);
 
+/* What the stations on the bus can do by that configuration: a figure of reach. */
+uint64_t outlook_reach(const outlook *o, unsigned item, unsigned among);
+
 #endif

@@ -13,7 +13,8 @@ enum {
     SEASON = 1 << FORM_SEASON,
     FRAMES = 1 << FORM_FRAMES,
     BY_HAND = RANDOM | DIRECTED, /* where bytes are set by hand */
-    ALL = BY_HAND | SEASON | FRAMES
+    LISTS = BY_HAND | SEASON,    /* which trials run */
+    ALL = LISTS | FRAMES
 };
 
 typedef struct {
@@ -28,6 +29,11 @@ static const meter_row METERS[MET_COUNT] = {
     [MET_VERSION_TIE] = {"commits that found a tie by version, values different", BY_HAND},
     [MET_GENERATION_TIE] = {"calls that found a tie by generation, configurations different", BY_HAND},
     [MET_REACH_TIE] = {"reaches that found a tie by generation, configurations different", BY_HAND},
+    [MET_REACH_LEFT] = {"reaches that a newer copy off the bus would give another figure", ALL},
+    [MET_REACH_LEFT_BY_HAND] = {"the same on tables changed by hand", BY_HAND},
+    [MET_REACH_HELD] = {"reaches held to rounds on copies of the table", LISTS},
+    [MET_REACH_PARTS] = {"reaches of 0 where no part of the stations on the bus is heard", LISTS},
+    [MET_REACH_SPENT] = {"reaches of 1 or 3 with the version spent", BY_HAND},
     [MET_DISJOINT_MOVE] = {"changes to disjoint stations", ALL},
     [MET_MISSING_MOVE] = {"changes where every old write set misses every new read set", ALL},
     [MET_STALE_POLL] = {"polls of a copy older than one polled before", ALL},
@@ -45,7 +51,7 @@ static const meter_row METERS[MET_COUNT] = {
     [MET_SHORT_CONFIGURATION] = {"changes short of configuration puts alone", ALL},
     [MET_SPENT_VERSION] = {"spent in a write", BY_HAND},
     [MET_SPENT_GENERATION] = {"spent in a change", BY_HAND},
-    [MET_BOOK] = {"finished rounds compared with the book", RANDOM | DIRECTED | SEASON},
+    [MET_BOOK] = {"finished rounds compared with the book", LISTS},
     [MET_BYTES] = {"tables changed by hand", BY_HAND},
     [MET_RAISE] = {"counters raised", RANDOM},
     [MET_ODD_CONFIGURATION] = {"configurations not 32 bytes long", BY_HAND | SEASON},
@@ -170,12 +176,19 @@ static void look_at_first_links(sight *s, const tally *t, const outlook *o, cons
     s->met[MET_LATE_POLL] = c->code == OSPREYSCREEN_POLL && (t->late & ~o->polled & one) != 0;
 }
 
-/* The highest generation of the item at copies that differ. */
-static bool reach_tie(const outlook *o, const call *c)
+/* A tie among the stations on the bus, and a newer copy off it that gives
+ * another figure. */
+static void look_at_reach(sight *s, const outlook *o, const call *c)
 {
     uint64_t item = c->numbers[ARGUMENT_ITEM];
-    return item < o->m &&
-           outlook_tie(o, (unsigned)item, all_stations(o->n), COUNTER_GENERATION);
+    if (item >= o->m) {
+        return;
+    }
+    unsigned i = (unsigned)item;
+    bool left = outlook_reach(o, i, o->on) != outlook_reach(o, i, all_stations(o->n));
+    s->met[MET_REACH_TIE] = !s->covered && outlook_tie(o, i, o->on, COUNTER_GENERATION);
+    s->met[MET_REACH_LEFT] = s->covered && left;
+    s->met[MET_REACH_LEFT_BY_HAND] = !s->covered && left;
 }
 
 sight tally_look(const tally *t, const call *c, const loan *table, bool covered)
@@ -203,7 +216,7 @@ sight tally_look(const tally *t, const call *c, const loan *table, bool covered)
         look_at_link(&s, &o, c);
         break;
     case OSPREYSCREEN_REACH:
-        s.met[MET_REACH_TIE] = !covered && reach_tie(&o, c);
+        look_at_reach(&s, &o, c);
         break;
     default:
         break;

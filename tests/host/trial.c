@@ -1,5 +1,6 @@
 #include "trial.h"
 
+#include "reach.h"
 #include "watch.h"
 
 #include <inttypes.h>
@@ -18,6 +19,14 @@ static bool same_reply(const ospreyscreen_reply *a, const ospreyscreen_reply *b)
 {
     return a->number == b->number && a->first == b->first && a->second == b->second &&
            a->third == b->third;
+}
+
+/* What a read of the item that finishes now replies by the book. */
+static ospreyscreen_reply read_in_book(const trial *t, uint64_t item)
+{
+    const book_item *i = &t->one_copy.items[item];
+    return (ospreyscreen_reply){OSPREYSCREEN_DONE, i->value, i->writes + t->raised_version[item],
+                                i->changes + t->raised_generation[item]};
 }
 
 /* Feeds the book, and holds a finished round to it. */
@@ -41,14 +50,28 @@ static bool in_book(trial *t, const call *c, tally *counts)
     if (counts != NULL) {
         counts->met[MET_BOOK]++;
     }
-    const book_item *item = &b->items[b->noted_item];
-    return noted != OSPREYSCREEN_ROUND_NONE && t->got.first == item->value &&
-           t->got.second - t->raised_version[b->noted_item] == item->writes &&
-           t->got.third - t->raised_generation[b->noted_item] == item->changes;
+    ospreyscreen_reply want = read_in_book(t, b->noted_item);
+    return noted != OSPREYSCREEN_ROUND_NONE && same_reply(&t->got, &want);
 }
 
-/* Makes the call in both runs; gives what is wrong, or a null pointer. */
-static const char *make_call(trial *t, const step *s, tally *counts)
+/* Holds a reach that is done to what it says. */
+static const char *hold_reach(const trial *t, const call *c, tally *counts)
+{
+    if (c->code != OSPREYSCREEN_REACH || t->got.number != OSPREYSCREEN_DONE) {
+        return NULL;
+    }
+    uint64_t item = c->numbers[ARGUMENT_ITEM];
+    ospreyscreen_reply read = read_in_book(t, item);
+    reached said = {.table = &t->tested.lent[LENT_TABLE],
+                    .item = item,
+                    .figure = t->got.first,
+                    .book = t->covered ? &read : NULL};
+    return reach_hold(t->tested.with, &said, counts);
+}
+
+/* Makes the call in both runs and compares them; gives what is wrong, or a
+ * null pointer. */
+static const char *compare_call(trial *t, const step *s, tally *counts)
 {
     const call *c = &s->made;
     lent_kind kind;
@@ -82,7 +105,21 @@ static const char *make_call(trial *t, const step *s, tally *counts)
     if (counts != NULL) {
         tally_call(counts, &seen, c, &t->got);
     }
-    return in_book(t, c, counts) ? NULL : "a finished round differs from the book";
+    return NULL;
+}
+
+/* One call: compared, held to the book, and a reach to what it says. */
+static const char *make_call(trial *t, const step *s, tally *counts)
+{
+    const char *wrong = compare_call(t, s, counts);
+
+    if (wrong != NULL) {
+        return wrong;
+    }
+    if (!in_book(t, &s->made, counts)) {
+        return "a finished round differs from the book";
+    }
+    return hold_reach(t, &s->made, counts);
 }
 
 /* Does to both tables what the step says. */
