@@ -167,6 +167,7 @@ table =
     -- "Stations 0 and 1 go off." Reach is "0, as here": "2 and 3 know only generation 0", and "no round is heard"
     ∷ moved (drops 0 ∷ drops 1 ∷ reach 0 ∷ []) 0 0 0 0
     ∷ moved (drops 0 ∷ drops 1 ∷ openRead 0 ∷ poll 2 ∷ poll 3 ∷ []) 0 0 0 0
+    ∷ moved (drops 0 ∷ drops 1 ∷ openRead 0 ∷ poll 2 ∷ poll 3 ∷ commit ∷ []) 8 0 0 0
     -- one of the two that know the change is enough, and what is found then asks for 2 to read and for 2 and 3 to write
     ∷ moved (drops 0 ∷ drops 1 ∷ returns 1 ∷ reach 0 ∷ []) 0 3 0 0
     ∷ moved (drops 0 ∷ drops 3 ∷ reach 0 ∷ []) 0 1 0 0
@@ -176,6 +177,8 @@ table =
     ∷ moved (openRead 0 ∷ poll 0 ∷ poll 2 ∷ drops 0 ∷ drops 1 ∷ commit ∷ []) 0 500 0 1
     -- the newest configuration on the bus, not that of the lowest station: with configuration puts 1, 2 station 0 still has the pairs, which 0, 1 would hold
     ∷ row (round (openChange 0 single) (dataPut 2 ∷ configPut 1 ∷ configPut 2 ∷ commit ∷ drops 2 ∷ reach 0 ∷ [])) 0 0 0 0
+    -- a write set alone: read 0003, write 0002, and station 1 on the bus
+    ∷ house 2 (side 3 0 0 ++ side 2 0 0) (returns 1 ∷ reach 0 ∷ []) 0 0 0 0
     ∷ []
 
 -- ---- the replies

@@ -171,6 +171,21 @@ module _ (cs ds : ℕ → Copy) (set n : ℕ) (e : (s : ℕ) → s < n → cs s 
   unfolding byGeneration
   by-generation-same = same-copy (λ x. x .generation)
 
-  pub hears-same : hears cs set n ≡ hears ds set n
+-- and of these, for what is heard, only generations and configurations
+module _ (cs ds : ℕ → Copy) (set n : ℕ) (e : (s : ℕ) → s < n → (cs s .generation ≡ ds s .generation) × (cs s .config ≡ ds s .config)) where
+  config-same : byGeneration cs set n .config ≡ byGeneration ds set n .config
+  unfolding byGeneration
+  config-same =
+      rw (newest-same (λ s. cs s .generation) (λ s. ds s .generation) set n (λ s l. e s l .0))
+      (go (newest (λ s. ds s .generation) set n) (is-newest (λ s. ds s .generation) set n))
+    where
+      go : (o : Option ℕ) → Gives (λ s. ds s .generation) set n o → copyOr cs o .config ≡ copyOr ds o .config
+      go none h = refl
+      go (some b) h = e b (h .station) .1
+
+  pub hears-alike : hears cs set n ≡ hears ds set n
   unfolding hears
-  hears-same = rw by-generation-same
+  hears-alike = rw config-same
+
+pub hears-same : (cs ds : ℕ → Copy) (set n : ℕ) → ((s : ℕ) → s < n → cs s ≡ ds s) → hears cs set n ≡ hears ds set n
+hears-same cs ds set n e = hears-alike cs ds set n (λ s l. (ap (λ c. c .generation) (e s l), ap (λ c. c .config) (e s l)))

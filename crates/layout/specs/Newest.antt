@@ -1,5 +1,5 @@
--- What the polled copies give (document 01, "The calls"): "the newest copy by version gives version and value; the newest by
--- generation gives generation and configuration; on equal numbers the lowest station counts."
+-- What the copies at the stations of a set give, a round's polled set or for reach the stations on the bus (document 01, "The calls"): "the newest copy by
+-- version gives version and value; the newest by generation gives generation and configuration; on equal numbers the lowest station counts."
 use mathlib.Core.Path.{_≡_}
 use mathlib.Core.Bool.{Bool, true, false, cond}
 use mathlib.Core.Logic.{_↔_}
@@ -50,4 +50,4 @@ byGeneration copies set n = copyOr copies (newest (λ s. copies s .generation) s
 -- "The round is heard if the polled set holds every station of some read set of that configuration."
 -- In source 000: a read quorum of the configuration with the highest generation that was read has been read.
 unfoldable pub hears : (ℕ → Copy) → ℕ → ℕ → Bool
-hears copies polled n = holdsRead (byGeneration copies polled n .config) polled
+hears copies set n = holdsRead (byGeneration copies set n .config) set

@@ -127,7 +127,7 @@ module _ (items : List Entry) (i x : ℕ) (l : i < length items) where
   entries-kept changeRound = length-set items i _
 
 -- "in a read both put sets .. are zero; in a write the configuration puts .. are zero"
-no-config-puts : (n : ℕ) (r : Round) (k : Kind) → RoundFacts n r k → (k ≡ changeRound → ⊥) → r .configPuts ≡ 0
+pub no-config-puts : (n : ℕ) (r : Round) (k : Kind) → RoundFacts n r k → (k ≡ changeRound → ⊥) → r .configPuts ≡ 0
 no-config-puts n r noRound f h = f .3
 no-config-puts n r readRound f h = f .1
 no-config-puts n r writeRound f h = f .0

@@ -15,6 +15,7 @@ pub mod OffAtFirst
 pub mod Alike
 pub mod Asking
 pub mod OnTheBus
+pub mod NoneFinishes
 pub mod OutOfReach
 pub mod ReachExact
 pub mod Twice

@@ -178,7 +178,7 @@ module _ (t : Table) (on : ℕ → Bool) (f : Settled t on) where
   reached none-on i l =
       let e = numbered .done-exactly t (reach i) .1 (asked, (l, tt)) in
       let r = reach-step (view t) i (is-sound t asked) (reply t (reach i)) (reply-figures t (reach i) e) in
-      (e, (r .neither .1 (λ g h. none-held none-on _ (onBus (view t)) (r .isOn) (h .1)), r .noOther .1, r .noOther .2))
+      (e, (r .unheard .1 (λ g h. none-held none-on _ (onBus (view t)) (r .isOn) (h .1)), r .noOther .1, r .noOther .2))
 
   bus : Bus t on
   bus =

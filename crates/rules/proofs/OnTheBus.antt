@@ -30,7 +30,8 @@ use Rattle.rules.specs.Reply.{replyOf, reply, after}
 use Rattle.rules.specs.Lists.{replies, afterAll}
 use Rattle.rules.specs.Needs.{needs}
 use Rattle.rules.specs.Demand2.{QuorumIn}
-use Rattle.rules.specs.ReachExact.{among, AllOn, polls, puts, Opens, of-read, of-write, of-change, Reads, AllDone, lastFigure, PollsSay, Closes, SpentOn}
+use Rattle.rules.specs.ReachExact.{among, AllOn, polls, puts, Opens, of-read, of-write, of-change}
+use Rattle.rules.specs.ReachExact.{Readable, AllDone, lastFigure, PollsSay, Closes, SpentOn}
 use Rattle.rules.proofs.Judged.{numbered, a-round}
 use Rattle.rules.proofs.Demand1.{Shows, reply-figures}
 use Rattle.rules.proofs.Laws.{done-allowed, next-view, length-kept, bytes-kept}
@@ -70,7 +71,7 @@ canWrite v i = holdsWrite (byGeneration (v .copies i) (onBus v) (v .n) .config) 
 abbrev three : Bool → Bool → ℕ
 three h w = cond h (cond w 3 1) 0
 
-pub reads-told : (h w : Bool) → Reads (three h w) ↔ (h ≡ true)
+pub reads-told : (h w : Bool) → Readable (three h w) ↔ (h ≡ true)
 reads-told true true = (λ r. refl, λ e. inr refl)
 reads-told true false = (λ r. refl, λ e. inl refl)
 reads-told false w = (λ r. absurd (⊎-elim (λ e. omega arith) (λ e. omega arith) r), λ e. clash e refl)
@@ -101,31 +102,31 @@ closes-told : {S N : Type 0} (h w s p : Bool) → (h ≡ true → (s ≡ true) �
     → Closes (three h w) (cond (not h) 8 (cond s 10 (cond (not p) 11 0))) S N
 closes-told false w s p spends writes =
     record {
-      unheard = λ e. refl;
-      spent = λ r. clash (reads-told false w .0 r) refl;
-      short = λ r. clash (reads-told false w .0 r) refl;
-      finished = λ r. clash (reads-told false w .0 r) refl;
+      unheard = (λ e. refl, λ e. refl);
+      spent = (λ e. absurd (omega arith), λ x. clash (reads-told false w .0 (x .0)) refl);
+      short = (λ e. absurd (omega arith), λ x. clash (reads-told false w .0 (x .0)) refl);
+      finished = (λ e. absurd (omega arith), λ x. clash (reads-told false w .0 (x .0)) refl);
     }
 closes-told true w true p spends writes =
     record {
-      unheard = λ e. clash refl (zero-told true w .0 e);
-      spent = λ r x. refl;
-      short = λ r x. absurd (x (spends refl .0 refl));
-      finished = λ r x. absurd (x (spends refl .0 refl));
+      unheard = (λ e. absurd (omega arith), λ e. clash refl (zero-told true w .0 e));
+      spent = (λ e. (reads-told true w .1 refl, spends refl .0 refl), λ x. refl);
+      short = (λ e. absurd (omega arith), λ x. absurd (x .1 (spends refl .0 refl)));
+      finished = (λ e. absurd (omega arith), λ x. absurd (x .1 (spends refl .0 refl)));
     }
 closes-told true w false true spends writes =
     record {
-      unheard = λ e. clash refl (zero-told true w .0 e);
-      spent = λ r x. clash (spends refl .1 x) refl;
-      short = λ r x y. absurd (y (writes refl refl .0 refl));
-      finished = λ r x y. refl;
+      unheard = (λ e. absurd (omega arith), λ e. clash refl (zero-told true w .0 e));
+      spent = (λ e. absurd (omega arith), λ x. clash (spends refl .1 (x .1)) refl);
+      short = (λ e. absurd (omega arith), λ x. absurd (x .2 (writes refl refl .0 refl)));
+      finished = (λ e. (reads-told true w .1 refl, λ x. clash (spends refl .1 x) refl, writes refl refl .0 refl), λ x. refl);
     }
 closes-told true w false false spends writes =
     record {
-      unheard = λ e. clash refl (zero-told true w .0 e);
-      spent = λ r x. clash (spends refl .1 x) refl;
-      short = λ r x y. refl;
-      finished = λ r x y. clash (writes refl refl .1 y) refl;
+      unheard = (λ e. absurd (omega arith), λ e. clash refl (zero-told true w .0 e));
+      spent = (λ e. absurd (omega arith), λ x. clash (spends refl .1 (x .1)) refl);
+      short = (λ e. (reads-told true w .1 refl, λ x. clash (spends refl .1 x) refl, λ y. clash (writes refl refl .1 y) refl), λ x. refl);
+      finished = (λ e. absurd (omega arith), λ x. clash (writes refl refl .1 (x .2)) refl);
     }
 
 -- ---- one table, and one of its items

@@ -5,7 +5,7 @@ use mathlib.Core.List.{List, [], _∷_}
 use Prim.Native.Nat.{ℕ, zero, suc, _<_}
 use native.Mathlib.Omega.{arith}
 use lib.Dec.{eqb}
-use borrow.Author.Tests.{lt-ltb, eqb-true, ne-eqb}
+use borrow.Author.Tests.{lt-ltb, eqb-true}
 use Rattle.basics.specs.Bytes.{AreBytes}
 use Rattle.basics.proofs.Tests.{clash, or-cases}
 use Rattle.quorum.specs.Sets.{member}
@@ -18,7 +18,6 @@ use Rattle.layout.specs.Updates.{noTarget}
 use Rattle.layout.proofs.Fields.{opened}
 use Rattle.layout.proofs.Held.{withRound}
 use Rattle.layout.proofs.Soundness.{StateSound, is-sound}
-use Rattle.layout.proofs.Newer.{hears-same}
 use Rattle.rules.specs.Calls.{Call, lay, openRead, openWrite, openChange, poll, put, commit, abandon, link, reach}
 use Rattle.rules.specs.Reply.{reply, after}
 use Rattle.rules.specs.Lists.{AllPassable}
@@ -31,6 +30,7 @@ use Rattle.rules.proofs.States.{next}
 use Rattle.rules.proofs.Laws.{done-allowed, next-view, bytes-kept}
 use Rattle.rules.proofs.Kept.{stays-sound}
 use Rattle.rules.proofs.Asking.{on-bus}
+use Rattle.rules.proofs.NoneFinishes.{Deaf, deaf-like, commit-deaf}
 
 module _ (i : ℕ) where
   -- what is kept while no station comes on. The stations that can have been polled: all that are on the bus are among them, and so is what a round on the item
@@ -39,7 +39,7 @@ module _ (i : ℕ) where
     pub those : ℕ
     pub on : onBus w ⊆ those
     pub polled : (w .round .kind ≡ none → ⊥) → w .round .item ≡ i → w .round .polled ⊆ those
-    pub nobody : i < w .m → (set : ℕ) → set ⊆ those → hears (w .copies i) set (w .n) ≡ false
+    pub deaf : Deaf i those w
 
   silent-like : (w x : State) → SameContents w x → Silent x → Silent w
   silent-like w x l h =
@@ -47,13 +47,12 @@ module _ (i : ℕ) where
         those = h .those;
         on = rw (l .n, l .off) (h .on);
         polled = rw (l .round) (h .polled);
-        nobody = λ b set inside. let item = rw (l .m) at b in
-            rw (l .n) (hears-same (w .copies i) (x .copies i) set (x .n) (λ s k. l .copies i s item k) ∙ h .nobody item set inside);
+        deaf = deaf-like i (h .those) w x l (h .deaf);
       }
 
   -- such a round is unheard
   silent-unheard : (w : State) → Silent w → w .round .item < w .m → (w .round .kind ≡ none → ⊥) → w .round .item ≡ i → heard w ≡ false
-  silent-unheard w h listed busy e = rw e (h .nobody (rw e at listed) (w .round .polled) (h .polled busy e))
+  silent-unheard w h listed busy e = rw e (h .deaf (rw e at listed) (w .round .polled) (h .polled busy e))
 
   -- ---- call by call
   module _ (w : State) (f : StateSound w) (h : Silent w) where
@@ -61,7 +60,7 @@ module _ (i : ℕ) where
     with-round : (x : State) → onBus x ⊆ onBus w → x .n ≡ w .n → x .m ≡ w .m → x .copies ≡ w .copies
         → ((x .round .kind ≡ none → ⊥) → x .round .item ≡ i → x .round .polled ⊆ h .those) → Silent x
     with-round x fewer n m copies polled =
-        record { those = h .those; on = λ s k. h .on s (fewer s k); polled = polled; nobody = rw (n, m, copies) (h .nobody) }
+        record { those = h .those; on = λ s k. h .on s (fewer s k); polled = polled; deaf = rw (n, m, copies) (h .deaf) }
 
     abbrev keeps : Call → Type 0
     keeps c = Allowed w c → onBus (next w c) ⊆ onBus w → Silent (next w c)
@@ -77,7 +76,7 @@ module _ (i : ℕ) where
           those = 0;
           on = λ s k. let x = on-bus (next w (lay n m value config)) (a .0 .1) s .0 k in clash (promise .member-full n s (a .0 .1) ∙ lt-ltb s n (x .0)) (x .1);
           polled = λ busy. absurd (busy refl);
-          nobody = λ b set inside. rw (promise .same-members set 0 inside (λ s k. clash k (promise .member-empty s))) (promise .none-read _);
+          deaf = λ b set inside. rw (promise .same-members set 0 inside (λ s k. clash k (promise .member-empty s))) (promise .none-read _);
         }
 
     -- a station that is polled is on the bus
@@ -99,12 +98,11 @@ module _ (i : ℕ) where
           those = h .those;
           on = λ s k. h .on s (fewer s k);
           polled = λ busy. absurd (busy refl);
-          nobody = λ b set inside.
-              hears-same (next w commit .copies i) (w .copies i) set (w .n) (λ s k. rw (ne-eqb i (w .round .item) other)) ∙ h .nobody b set inside;
+          deaf = commit-deaf i (h .those) w f (h .deaf) (λ _ own. clash heard-now (silent-unheard w h (f .item) (a .1 .0) own));
         }
       where
-        other : i ≡ w .round .item → ⊥
-        other e = clash (heard-exactly w .1 (a .1 .1 .0)) (silent-unheard w h (f .item) (a .1 .0) (sym e))
+        heard-now : heard w ≡ true
+        heard-now = heard-exactly w .1 (a .1 .1 .0)
 
     kept : (c : Call) → keeps c
     kept (lay n m value config) a fewer = laid-kept n m value config a fewer

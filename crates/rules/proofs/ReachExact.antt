@@ -26,7 +26,7 @@ use Rattle.rules.specs.Lists.{replies, afterAll, AllPassable}
 use Rattle.rules.specs.Book.{Book, entry, step, fed, fedAll}
 use Rattle.rules.specs.Needs.{needs}
 use Rattle.rules.specs.Steps.{SameCopies}
-use Rattle.rules.specs.ReachExact.{AllOn, polls, Reads, OutOfReach, DoneGiving, OverLists, ReachExact}
+use Rattle.rules.specs.ReachExact.{AllOn, polls, Readable, OutOfReach, DoneGiving, OverLists, ReachExact}
 use Rattle.rules.proofs.Quorums.{heard-by}
 use Rattle.rules.proofs.Judged.{numbered}
 use Rattle.rules.proofs.Demand1.{refusal-has-no-figures}
@@ -39,6 +39,7 @@ use Rattle.rules.proofs.OnTheBus.{allHeard, canWrite, reads-told, zero-
 use Rattle.rules.proofs.OnTheBus.{exact-hears, exact-reads, exact-writes, exact-changes}
 use Rattle.rules.proofs.Alike.{alike-tables}
 use Rattle.rules.proofs.OutOfReach.{stays}
+use Rattle.rules.proofs.NoneFinishes.{none-finishes}
 
 -- ---- the open round does not matter
 any-round : (t u : Table) (i : ℕ) → sound t ≡ true → sound u ≡ true → SameCopies (view t) (view u) → view u .off ≡ view t .off
@@ -77,24 +78,25 @@ module _ (t : Table) (b : Book) (bytes : AreBytes t) (isSound : sound t ≡ true
     out-of-reach : reply t (reach i) .first ≡ 0 → OutOfReach t i
     out-of-reach e =
         record {
-          nobody = λ set inside g x. clash (heard-by now i set .1 (g, x)) (none-heard e set inside);
+          no-set-heard = λ set inside g x. clash (heard-by now i set .1 (g, x)) (none-heard e set inside);
+          none-finishes = λ calls p. none-finishes i (onBus now) calls t bytes asked (λ _. none-heard e) p;
           stays-unheard = λ polled calls p. stays i calls t bytes asked
-              (record { those = onBus now; on = λ s m. m; polled = polled; nobody = λ _. none-heard e }) p;
+              (record { those = onBus now; on = λ s m. m; polled = polled; deaf = λ _. none-heard e }) p;
         }
 
-    gives-entry : (order : List ℕ) → Reads (reply t (reach i) .first) → AllOn now order → now .round .kind ≡ none
+    gives-entry : (order : List ℕ) → Readable (reply t (reach i) .first) → AllOn now order → now .round .kind ≡ none
         → DoneGiving (entry (b .items) i) (reply (afterAll t (openRead i ∷ polls order)) commit)
     unfolding needs afterAll
     gives-entry order r all idle =
         let h = reads-told (allHeard now i) (canWrite now i) .0 (rw figure at r) in
         let opens = numbered .done-exactly t (openRead i) .1 (asked, (item, (idle, tt))) in
-        let number = exact-reads t bytes i order all opens .finished r (λ x. x) tt in
+        let number = exact-reads t bytes i order all opens .finished .1 (r, λ x. x, tt) in
         let shows = read-shows t bytes asked i item order all (after t (openRead i)) (asks-read t bytes i order all opens) number in
         let x = heard-current (now .n) (now .copies i) _ _ _ (onBus now) (inv .kept i item) valid-there h in
         (number, record { value = shows .0 ∙ x .value; writes = shows .1 ∙ x .version; changes = shows .2 ∙ x .generation })
 
   -- where reach has a figure, the item is one of the table's
-  reached-item : (i : ℕ) → Reads (reply t (reach i) .first) → i < now .m
+  reached-item : (i : ℕ) → Readable (reply t (reach i) .first) → i < now .m
   unfolding needs
   reached-item i r = go (reply t (reach i) .number) refl
     where
@@ -104,16 +106,16 @@ module _ (t : Table) (b : Book) (bytes : AreBytes t) (isSound : sound t ≡ true
           let z = refusal-has-no-figures t (reach i) (λ q. let y : suc k ≡ 0 = sym e ∙ q in omega arith) .0 in
           absurd (⊎-elim (λ q. let y : _≡_ {A = ℕ} 0 1 = sym z ∙ q in omega arith) (λ q. let y : _≡_ {A = ℕ} 0 3 = sym z ∙ q in omega arith) r)
 
-  reads-there : (i : ℕ) (order : List ℕ) → Reads (reply t (reach i) .first) → AllOn now order → now .round .kind ≡ none
+  reads-there : (i : ℕ) (order : List ℕ) → Readable (reply t (reach i) .first) → AllOn now order → now .round .kind ≡ none
       → DoneGiving (entry (b .items) i) (reply (afterAll t (openRead i ∷ polls order)) commit)
   reads-there i order r = gives-entry i (reached-item i r) order r
 
 -- the same after an abandon
-reads-instead : (t : Table) (b : Book) → AreBytes t → sound t ≡ true → Follows (view t) b → (i : ℕ) (order : List ℕ)
-    → Reads (reply t (reach i) .first) → AllOn (view t) order → (view t .round .kind ≡ none → ⊥)
+reads-after-abandon : (t : Table) (b : Book) → AreBytes t → sound t ≡ true → Follows (view t) b → (i : ℕ) (order : List ℕ)
+    → Readable (reply t (reach i) .first) → AllOn (view t) order → (view t .round .kind ≡ none → ⊥)
     → DoneGiving (entry (b .items) i) (reply (afterAll t (abandon ∷ openRead i ∷ polls order)) commit)
 unfolding needs afterAll fed view
-reads-instead t b bytes s inv i order r all busy =
+reads-after-abandon t b bytes s inv i order r all busy =
     let e = numbered .done-exactly t abandon .1 (s, (busy, tt)) in
     let u = after t abandon in
     let d = done-step t abandon e bytes tt in
@@ -127,8 +129,8 @@ unfolding needs
 over-lists t b bytes s inv =
     record {
       zero = λ i done. out-of-reach t b bytes s inv i (done-allowed t (reach i) done .1 .0);
-      reads = reads-there t b bytes s inv;
-      reads-instead = reads-instead t b bytes s inv;
+      reads-the-book = reads-there t b bytes s inv;
+      reads-after-abandon = reads-after-abandon t b bytes s inv;
     }
 
 -- ---- after every list of calls

@@ -208,7 +208,7 @@ module _ (v : State) (i : ℕ) (f : StateSound v) where
       (λ g h. rw (by-generation (v .copies i) on (v .n) g (h .0)) (promise .holds-write (v .copies i g .config) on)) in
       record {
         isOn = on-members;
-        neither = rw (q .0) (z .2);
+        unheard = rw (q .0) (z .2);
         readsOnly = rw (q .0) (z .0);
         writes = rw (q .0) (z .1);
         noOther = (rw (q .0) (three-only (hears (v .copies i) on (v .n)) (holdsWrite (byGeneration (v .copies i) on (v .n) .config) on)), q .1, q .2);

@@ -31,7 +31,7 @@ pub record Found (v : State) : Type 0 where
 abbrev pub ReadQuorum : (ℕ → Copy) → ℕ → ℕ → Type 0
 ReadQuorum copies g set = QuorumIn (readSet (copies g .config)) set
 
--- one of the configuration found lies within the polled set
+-- a read quorum of the configuration found lies within the polled set
 abbrev pub Heard : (v : State) → Found v → Type 0
 Heard v f = ReadQuorum (own v) (f .g) (v .round .polled)
 

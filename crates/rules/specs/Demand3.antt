@@ -1,6 +1,6 @@
 -- Demand 3: the single claim over a whole list of calls (document 01, "The book of one copy"): readings are those of one copy. Of document 01's
 -- "Versions that fail", a commit that stores only the first put, or nothing, and every read replying the starting value fail at a later read's
--- `value`, and a version or generation that no finished round made at `writes` or `changes`.
+-- `value` (of `Gives`, Book.antt), and a version or generation that no finished round made at `writes` or `changes`.
 use mathlib.Core.Path.{_≡_}
 use mathlib.Core.List.{List, [], _∷_}
 use Prim.Native.Nat.{ℕ}

@@ -28,7 +28,7 @@ closing v write = record { first = v .round .value; second = foundByVersion v .v
 closing v change = record { first = foundByVersion v .value; second = foundByVersion v .version; third = foundByGeneration v .generation + 1 }
 
 -- Document 02, 2026-03: "Reach shall be judged by what polling every station on the bus finds: 1 if that is heard, 3 if they also hold a write set
--- of the configuration found, else 0". What is found and heard is a round's (Newest.antt of the layout), with the stations on the bus as the polled set: of
+-- of the configuration found, else 0". Found and heard are as in a round (Newest.antt of the layout), with the stations on the bus for the polled set: of
 -- copies with equal generations that of the lowest station counts, and with nobody on the bus nothing is heard. An open round does not matter.
 abbrev pub reachOf : (ℕ → Copy) → ℕ → ℕ → ℕ
 reachOf copies on n = cond (hears copies on n) (cond (holdsWrite (byGeneration copies on n .config) on) 3 1) 0

@@ -1,7 +1,8 @@
--- Reach is exact (document 02, 2026-03): its figure says what a round that polls only stations on the bus can do. On every sound table with no open round
--- the polls of all stations on the bus are heard exactly if it is 1 or 3, and with data puts at all of them a write finishes exactly if it is 3 and no version
--- is spent; a change needs a write set of its target as well. Over every list of demand 3 it says more: where it is 0, no part of the stations on the bus is
--- heard either, and where it is 1 or 3, the read that polls them all gives the book's figures.
+-- Reach is exact (document 02, 2026-03): its figure says what a round that polls only stations on the bus can do. On every sound table with no open round:
+-- after an opening of the item and polls of all stations on the bus the round is heard exactly if the figure is 1 or 3, and with data puts at all of them a
+-- write finishes exactly if it is 3 and no copy of the item among them has a spent version; a change needs a write set of its target as well. Over every
+-- list of demand 3 it says more: where it is 0, no part of the stations on the bus is heard either, and where it is 1 or 3, the read that polls them all
+-- gives the book's figures.
 use mathlib.Core.Path.{_≡_}
 use mathlib.Core.Bool.{Bool, true, false, _||_}
 use mathlib.Core.List.{List, [], _∷_, _++_}
@@ -12,11 +13,11 @@ use Rattle.basics.specs.Bytes.{AreBytes}
 use Rattle.quorum.specs.Sets.{member}
 use Rattle.quorum.specs.Configurations.{writeSet}
 use Rattle.quorum.specs.Promise.{_⊆_}
-use Rattle.layout.specs.Fields.{Copy, none}
+use Rattle.layout.specs.Fields.{Copy, none, change}
 use Rattle.layout.specs.Soundness.{sound}
 use Rattle.layout.specs.View.{Table, State, view, onBus}
 use Rattle.rules.specs.Calls.{Call, lay, openRead, openWrite, openChange, poll, put, commit, abandon, reach}
-use Rattle.rules.specs.Calls.{dataSort, configSort}
+use Rattle.rules.specs.Calls.{isLay, dataSort, configSort}
 use Rattle.rules.specs.Passed.{Passable}
 use Rattle.rules.specs.Reply.{reply, after}
 use Rattle.rules.specs.Lists.{replies, afterAll, AllPassable}
@@ -51,9 +52,9 @@ pub data Opens : Call → ℕ → Type 0 where
   of-write : {i value : ℕ} → Opens (openWrite i value) i
   of-change : {i : ℕ} {target : List ℕ} → Opens (openChange i target) i
 
--- the item can be read
-abbrev pub Reads : ℕ → Type 0
-Reads figure = (figure ≡ 1) ⊎ (figure ≡ 3)
+-- a figure that says that the item can be read
+abbrev pub Readable : ℕ → Type 0
+Readable figure = (figure ≡ 1) ⊎ (figure ≡ 3)
 
 -- every call is done; the first figure of the last reply, or the one given where there is none
 abbrev pub AllDone : List Reply → Type 0
@@ -67,21 +68,29 @@ lastFigure x (r ∷ rest) = lastFigure (r .first) rest
 -- the replies to the polls: the last says heard, or not
 pub record PollsSay (figure : ℕ) (answers : List Reply) : Type 0 where
   pub done : AllDone answers
-  pub heard : (lastFigure 0 answers ≡ 1) ↔ Reads figure
+  pub heard : (lastFigure 0 answers ≡ 1) ↔ Readable figure
   pub unheard : (lastFigure 0 answers ≡ 0) ↔ (figure ≡ 0)
 
--- the number of a commit after them, by whether a counter that the round must raise is spent, and whether the quorums that it needs are written
+-- the number of the commit that ends such a round, by whether a counter that it must raise is spent, and whether the quorums that it needs are written
 pub record Closes (figure number : ℕ) (Spent Written : Type 0) : Type 0 where
-  pub unheard : figure ≡ 0 → number ≡ 8
-  pub spent : Reads figure → Spent → number ≡ 10
-  pub short : Reads figure → (Spent → ⊥) → (Written → ⊥) → number ≡ 11
-  pub finished : Reads figure → (Spent → ⊥) → Written → number ≡ 0
+  pub unheard : (number ≡ 8) ↔ (figure ≡ 0)
+  pub spent : (number ≡ 10) ↔ (Readable figure × Spent)
+  pub short : (number ≡ 11) ↔ (Readable figure × (Spent → ⊥) × (Written → ⊥))
+  pub finished : (number ≡ 0) ↔ (Readable figure × (Spent → ⊥) × Written)
 
--- some copy on the bus has the last number of a counter
+-- some copy of item i at a station on the bus has the last number of a counter; then it is the greatest among them, which the round finds
 abbrev pub SpentOn : (Copy → ℕ) → State → ℕ → Type 0
 SpentOn counter v i = (s : ℕ) × (member (onBus v) s ≡ true) × (counter (v .copies i s) ≡ 2 ^ 64 - 1)
 
 -- ---- what it says over a list of demand 3
+-- each commit of a round on item i that has polled only these stations gets 8, up to the first lay or change of the item that is done
+abbrev pub NoneFinishes : ℕ → ℕ → Table → List Call → Type 0
+NoneFinishes i these t [] = Unit {0}
+NoneFinishes i these t (c ∷ calls) =
+    (c ≡ commit → (view t .round .kind ≡ none → ⊥) → view t .round .item ≡ i → view t .round .polled ⊆ these → reply t commit .number ≡ 8)
+    × ((reply t c .number ≡ 0 → (isLay c ≡ false) × (c ≡ commit → view t .round .kind ≡ change → view t .round .item ≡ i → ⊥))
+    → NoneFinishes i these (after t c) calls)
+
 -- each commit of a round on item i gets 8, up to the first call by which a station comes on
 abbrev pub StaysUnheard : ℕ → Table → List Call → Type 0
 StaysUnheard i t [] = Unit {0}
@@ -91,8 +100,10 @@ StaysUnheard i t (c ∷ calls) =
 
 pub record OutOfReach (t : Table) (i : ℕ) : Type 0 where
   -- no set of stations on the bus would be heard
-  pub nobody : (set : ℕ) → set ⊆ onBus (view t) → (g : ℕ) → HeardBy (view t) i set g → ⊥
-  -- so no round on the item finishes before a station comes on, if one that is open has polled only stations on the bus
+  pub no-set-heard : (set : ℕ) → set ⊆ onBus (view t) → (g : ℕ) → HeardBy (view t) i set g → ⊥
+  -- so no round that polls only these stations can finish, the one that is open included, whoever comes on later
+  pub none-finishes : (calls : List Call) → AllPassable calls → NoneFinishes i (onBus (view t)) t calls
+  -- and no round on the item at all before a station comes on, if one that is open now has polled only stations on the bus
   pub stays-unheard : ((view t .round .kind ≡ none → ⊥) → view t .round .item ≡ i → view t .round .polled ⊆ onBus (view t))
       → (calls : List Call) → AllPassable calls → StaysUnheard i t calls
 
@@ -104,9 +115,9 @@ DoneGiving e r = (r .number ≡ 0) × Gives e r
 pub record OverLists (t : Table) (b : Book) : Type 0 where
   pub zero : (i : ℕ) → reply t (reach i) .number ≡ 0 → reply t (reach i) .first ≡ 0 → OutOfReach t i
   -- the read that polls all stations on the bus, where no round is open, and where one is abandoned for it
-  pub reads : (i : ℕ) (order : List ℕ) → Reads (reply t (reach i) .first) → AllOn (view t) order → view t .round .kind ≡ none
+  pub reads-the-book : (i : ℕ) (order : List ℕ) → Readable (reply t (reach i) .first) → AllOn (view t) order → view t .round .kind ≡ none
       → DoneGiving (entry (b .items) i) (reply (afterAll t (openRead i ∷ polls order)) commit)
-  pub reads-instead : (i : ℕ) (order : List ℕ) → Reads (reply t (reach i) .first) → AllOn (view t) order → (view t .round .kind ≡ none → ⊥)
+  pub reads-after-abandon : (i : ℕ) (order : List ℕ) → Readable (reply t (reach i) .first) → AllOn (view t) order → (view t .round .kind ≡ none → ⊥)
       → DoneGiving (entry (b .items) i) (reply (afterAll t (abandon ∷ openRead i ∷ polls order)) commit)
 
 pub record ReachExact : Type 0 where

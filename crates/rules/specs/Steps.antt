@@ -131,9 +131,9 @@ pub record Committed (v w : State) (r : Reply) : Type 0 where
 -- ---- reach, document 02, 2026-03: "judged by what polling every station on the bus finds: 1 if that is heard, 3 if they also hold a write set of the
 -- configuration found, else 0". What that means for rounds is in ReachExact.antt.
 pub record Reached (v : State) (i : ℕ) (r : Reply) : Type 0 where
-  -- the stations on the bus; polling them finds the configuration of a station g, and nothing where there are none
+  -- the stations on the bus; polling them finds the configuration of a station g, and nothing where there are none, so that the figure is 0
   pub isOn : (s : ℕ) → member (onBus v) s ≡ (ltb s (v .n) && not (member (v .off) s))
-  pub neither : (r .first ≡ 0) ↔ ((g : ℕ) → HeardBy v i (onBus v) g → ⊥)
+  pub unheard : (r .first ≡ 0) ↔ ((g : ℕ) → HeardBy v i (onBus v) g → ⊥)
   pub readsOnly : (r .first ≡ 1) ↔ ((g : ℕ) × HeardBy v i (onBus v) g × (QuorumIn (writeSet (v .copies i g .config)) (onBus v) → ⊥))
   pub writes : (r .first ≡ 3) ↔ ((g : ℕ) × HeardBy v i (onBus v) g × QuorumIn (writeSet (v .copies i g .config)) (onBus v))
   pub noOther : ((r .first ≡ 0) ⊎ ((r .first ≡ 1) ⊎ (r .first ≡ 3))) × (r .second ≡ 0) × (r .third ≡ 0)
