@@ -9,8 +9,7 @@ use lib.Dec.{eqb, ltb}
 use borrow.Author.Tests.{eq-eqb, lt-ltb, ltb-true, not-true}
 use Rattle.basics.specs.Bytes.{AreBytes}
 use Rattle.basics.proofs.Tests.{or-left, or-right, and-left, and-right, and-both}
-use Rattle.quorum.specs.Sets.{member, join, full}
-use Rattle.quorum.proofs.Promise.{promise}
+use Rattle.quorum.specs.Sets.{member, join}
 use Rattle.layout.specs.Fields.{Kind, none, read, write, change, Round}
 use Rattle.layout.specs.Newest.{hears}
 use Rattle.layout.specs.Rounds.{withPolled, withPuts, withPoll, withPut}
@@ -27,6 +26,7 @@ use Rattle.rules.specs.Alike.{Alike}
 use Rattle.rules.specs.ReachExact.{among, polls, puts, AllDone, lastFigure}
 use Rattle.rules.proofs.Judged.{is-done, a-round, at-station, sound-number}
 use Rattle.rules.proofs.Demand1.{refusal-changes-nothing}
+use Rattle.rules.proofs.Steps.{on-members}
 use Rattle.rules.proofs.Laws.{next-view, length-kept, bytes-kept}
 use Rattle.rules.proofs.Kept.{after-sound}
 use Rattle.rules.proofs.Alike.{alike-tables}
@@ -35,7 +35,7 @@ use Rattle.rules.proofs.Alike.{alike-tables}
 -- a station is on the bus if it is one of the n, and not off
 pub on-bus : (v : State) → v .n ≤ 16 → (s : ℕ) → (member (onBus v) s ≡ true) ↔ ((s < v .n) × (member (v .off) s ≡ false))
 on-bus v few s =
-    rw (promise .member-minus (full (v .n)) (v .off) s, promise .member-full (v .n) s few) (
+    rw (on-members v few s) (
       λ e. (ltb-true s (v .n) (and-left (ltb s (v .n)) (not (member (v .off) s)) e), not-true (member (v .off) s) (and-right (ltb s (v .n)) _ e)),
       λ h. and-both (ltb s (v .n)) _ (lt-ltb s (v .n) (h .0)) (ap not (h .1)),
     )

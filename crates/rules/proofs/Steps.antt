@@ -195,10 +195,10 @@ module _ (v w : State) (r : Reply) (l : SameContents w (next v commit)) (item : 
       }
 
 -- ---- reach
-module _ (v : State) (i : ℕ) (f : StateSound v) where
-  pub on-members : (s : ℕ) → member (onBus v) s ≡ (ltb s (v .n) && not (member (v .off) s))
-  on-members s = promise .member-minus (full (v .n)) (v .off) s ∙ rw (promise .member-full (v .n) s (f .small))
+pub on-members : (v : State) → v .n ≤ 16 → (s : ℕ) → member (onBus v) s ≡ (ltb s (v .n) && not (member (v .off) s))
+on-members v few s = promise .member-minus (full (v .n)) (v .off) s ∙ rw (promise .member-full (v .n) s few)
 
+module _ (v : State) (i : ℕ) (f : StateSound v) where
   pub reach-step : (r : Reply) → Shows r (figuresOf v (reach i)) → Reached v i r
   unfolding figuresOf
   reach-step r q =
@@ -207,7 +207,7 @@ module _ (v : State) (i : ℕ) (f : StateSound v) where
       (holdsWrite (byGeneration (v .copies i) on (v .n) .config) on) (heard-by v i on)
       (λ g h. rw (by-generation (v .copies i) on (v .n) g (h .0)) (promise .holds-write (v .copies i g .config) on)) in
       record {
-        isOn = on-members;
+        isOn = on-members v (f .small);
         unheard = rw (q .0) (z .2);
         readsOnly = rw (q .0) (z .0);
         writes = rw (q .0) (z .1);
