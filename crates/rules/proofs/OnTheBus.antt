@@ -81,6 +81,11 @@ zero-told true true = (λ e. absurd (omega arith), λ e. clash refl e)
 zero-told true false = (λ e. absurd (omega arith), λ e. clash refl e)
 zero-told false w = (λ e. refl, λ e. refl)
 
+pub one-told : (h w : Bool) → (three h w ≡ 1) ↔ ((w ≡ false) × (h ≡ true))
+one-told true true = (λ e. absurd (omega arith), λ x. clash refl (x .0))
+one-told true false = (λ e. (refl, refl), λ x. refl)
+one-told false w = (λ e. absurd (omega arith), λ x. clash (x .1) refl)
+
 write-told : (h w : Bool) → h ≡ true → (w ≡ true) ↔ (three h w ≡ 3)
 write-told true true e = (λ _. refl, λ _. refl)
 write-told true false e = (λ q. clash q refl, λ q. absurd (omega arith))

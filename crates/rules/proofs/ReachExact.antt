@@ -3,21 +3,23 @@
 use mathlib.Core.Path.{_≡_, refl, sym, ap, _∙_}
 use mathlib.Core.Bool.{true, false, cond}
 use mathlib.Core.List.{List, [], _∷_}
-use mathlib.Core.Logic.{⊎-elim}
+use mathlib.Core.Logic.{inl, ⊎-elim}
 use Prim.Native.Nat.{ℕ, zero, suc, _<_}
 use native.Mathlib.Omega.{arith}
 use lib.Dec.{eqb}
 use Rattle.basics.specs.Bytes.{AreBytes}
 use Rattle.basics.proofs.Tests.{clash, fails}
-use Rattle.quorum.specs.Configurations.{valid}
+use Rattle.quorum.specs.Configurations.{writeSet, valid}
 use Rattle.quorum.specs.Promise.{_⊆_}
+use Rattle.quorum.proofs.Promise.{promise}
 use Rattle.layout.specs.Layout.{tableLength}
 use Rattle.layout.specs.Fields.{none}
-use Rattle.layout.specs.Newest.{hears}
+use Rattle.layout.specs.Newest.{byGeneration, hears}
 use Rattle.layout.specs.Soundness.{sound}
 use Rattle.layout.specs.View.{Table, State, view, onBus}
 use Rattle.layout.proofs.Soundness.{is-sound, sound-facts}
 use Rattle.layout.proofs.Held.{withRound}
+use Rattle.layout.proofs.Newer.{by-generation}
 use Rattle.rules.specs.Calls.{Call, lay, openRead, commit, abandon, reach}
 use Rattle.rules.specs.Rules.{numberOf, refusals, tests}
 use Rattle.rules.specs.Figures.{figuresOf}
@@ -26,6 +28,7 @@ use Rattle.rules.specs.Lists.{replies, afterAll, AllPassable}
 use Rattle.rules.specs.Book.{Book, entry, step, fed, fedAll}
 use Rattle.rules.specs.Needs.{needs}
 use Rattle.rules.specs.Steps.{SameCopies}
+use Rattle.rules.specs.Demand2.{QuorumIn, HeardBy}
 use Rattle.rules.specs.ReachExact.{AllOn, polls, Readable, OutOfReach, DoneGiving, OverLists, ReachExact}
 use Rattle.rules.proofs.Quorums.{heard-by}
 use Rattle.rules.proofs.Judged.{numbered}
@@ -35,7 +38,7 @@ use Rattle.rules.proofs.Book.{Follows}
 use Rattle.rules.proofs.Laws.{done-allowed, done-step, bytes-kept}
 use Rattle.rules.proofs.Kept.{after-sound, stays-sound}
 use Rattle.rules.proofs.Demand3.{goes-on, begins}
-use Rattle.rules.proofs.OnTheBus.{allHeard, canWrite, reads-told, zero-told, reach-figure, read-shows, asks-read}
+use Rattle.rules.proofs.OnTheBus.{allHeard, canWrite, one-told, reads-told, zero-told, reach-figure, read-shows, asks-read}
 use Rattle.rules.proofs.OnTheBus.{exact-hears, exact-reads, exact-writes, exact-changes}
 use Rattle.rules.proofs.Alike.{alike-tables}
 use Rattle.rules.proofs.OutOfReach.{stays}
@@ -74,6 +77,19 @@ module _ (t : Table) (b : Book) (bytes : AreBytes t) (isSound : sound t ≡ true
         fails (hears (now .copies i) set (now .n))
         (λ h. clash (heard-grows (now .n) (now .copies i) _ _ _ set (inv .kept i item) valid-there (onBus now) inside h)
         (zero-told (allHeard now i) (canWrite now i) .0 (sym figure ∙ e)))
+
+    -- every part that is heard finds the current configuration, as all of them do
+    no-write-set : reply t (reach i) .first ≡ 1 → (set : ℕ) → set ⊆ onBus now → (g : ℕ) → HeardBy now i set g
+        → QuorumIn (writeSet (now .copies i g .config)) (onBus now) → ⊥
+    no-write-set e set inside g x q =
+        let copies = now .copies i in
+        let h = heard-by now i set .1 (g, x) in
+        let k = inv .kept i item in
+        let part = heard-current (now .n) copies _ _ _ set k valid-there h in
+        let all = heard-current (now .n) copies _ _ _ (onBus now) k valid-there (heard-grows (now .n) copies _ _ _ set k valid-there (onBus now) inside h) in
+        let same : copies g .config ≡ byGeneration copies (onBus now) (now .n) .config =
+        ap (λ c. c .config) (sym (by-generation copies set (now .n) g (x .0))) ∙ part .config ∙ sym (all .config) in
+        clash (promise .holds-write _ (onBus now) .1 (rw same at q)) (one-told (allHeard now i) (canWrite now i) .0 (sym figure ∙ e) .0)
 
     out-of-reach : reply t (reach i) .first ≡ 0 → OutOfReach t i
     out-of-reach e =
@@ -129,6 +145,7 @@ unfolding needs
 over-lists t b bytes s inv =
     record {
       zero = λ i done. out-of-reach t b bytes s inv i (done-allowed t (reach i) done .1 .0);
+      one = λ i e. no-write-set t b bytes s inv i (reached-item t b bytes s inv i (inl e)) e;
       reads-the-book = reads-there t b bytes s inv;
       reads-after-abandon = reads-after-abandon t b bytes s inv;
     }

@@ -1,8 +1,8 @@
--- Reach is exact (document 02, 2026-03): its figure says what a round that polls only stations on the bus can do. On every sound table with no open round:
--- after an opening of the item and polls of all stations on the bus the round is heard exactly if the figure is 1 or 3, and with data puts at all of them a
--- write finishes exactly if it is 3 and no copy of the item among them has a spent version; a change needs a write set of its target as well. Over every
--- list of demand 3 it says more: where it is 0, no part of the stations on the bus is heard either, and where it is 1 or 3, the read that polls them all
--- gives the book's figures.
+-- Reach is exact (document 02, 2026-03). On every sound table with no open round its figure says what a round that polls all stations on the bus can do.
+-- After an opening of the item and these polls it is heard exactly if the figure is 1 or 3. With data puts at all of them a write finishes exactly if it is 3 and
+-- no copy of the item among them has a spent version; with both puts a change finishes exactly if it is 3, they hold a write set of its target, and no copy
+-- has a spent generation. Over every list of demand 3 it speaks of rounds that poll a part of them too: where it is 0 none is heard, so that none finishes;
+-- where it is 1 none of them finds a configuration whose write sets they hold. And where it is 1 or 3, the read that polls them all gives the book's figures.
 use mathlib.Core.Path.{_≡_}
 use mathlib.Core.Bool.{Bool, true, false, _||_}
 use mathlib.Core.List.{List, [], _∷_, _++_}
@@ -46,7 +46,7 @@ puts sort [] = []
 puts sort (s ∷ rest) = put s sort ∷ puts sort rest
 
 -- ---- what the figure says of one table
--- an opening of item i. It is done on a sound table that has the item and has no open round; an open change needs a valid target too (Needs.antt).
+-- an opening of item i. It is done on a sound table that has the item and has no open round; that of a change needs a valid target too (Needs.antt).
 pub data Opens : Call → ℕ → Type 0 where
   of-read : {i : ℕ} → Opens (openRead i) i
   of-write : {i value : ℕ} → Opens (openWrite i value) i
@@ -65,25 +65,26 @@ abbrev pub lastFigure : ℕ → List Reply → ℕ
 lastFigure x [] = x
 lastFigure x (r ∷ rest) = lastFigure (r .first) rest
 
--- the replies to the polls: the last says heard, or not
+-- the replies to the polls: all are done, and the last says heard, or not. With nobody on the bus there are none, and nothing is heard.
 pub record PollsSay (figure : ℕ) (answers : List Reply) : Type 0 where
   pub done : AllDone answers
   pub heard : (lastFigure 0 answers ≡ 1) ↔ Readable figure
   pub unheard : (lastFigure 0 answers ≡ 0) ↔ (figure ≡ 0)
 
--- the number of the commit that ends such a round, by whether a counter that it must raise is spent, and whether the quorums that it needs are written
-pub record Closes (figure number : ℕ) (Spent Written : Type 0) : Type 0 where
+-- the number of the commit after such calls, by whether a counter that the round must raise is spent, and whether the quorums that it must write are on the
+-- bus. There is no other number, since there is no other figure (`Reached` of Steps.antt).
+pub record Closes (figure number : ℕ) (Spent OnBus : Type 0) : Type 0 where
   pub unheard : (number ≡ 8) ↔ (figure ≡ 0)
   pub spent : (number ≡ 10) ↔ (Readable figure × Spent)
-  pub short : (number ≡ 11) ↔ (Readable figure × (Spent → ⊥) × (Written → ⊥))
-  pub finished : (number ≡ 0) ↔ (Readable figure × (Spent → ⊥) × Written)
+  pub short : (number ≡ 11) ↔ (Readable figure × (Spent → ⊥) × (OnBus → ⊥))
+  pub finished : (number ≡ 0) ↔ (Readable figure × (Spent → ⊥) × OnBus)
 
--- some copy of item i at a station on the bus has the last number of a counter; then it is the greatest among them, which the round finds
+-- some copy of item i at a station on the bus has the last number of a counter, which has eight bytes: that number is then the greatest, the one found
 abbrev pub SpentOn : (Copy → ℕ) → State → ℕ → Type 0
 SpentOn counter v i = (s : ℕ) × (member (onBus v) s ≡ true) × (counter (v .copies i s) ≡ 2 ^ 64 - 1)
 
 -- ---- what it says over a list of demand 3
--- each commit of a round on item i that has polled only these stations gets 8, up to the first lay or change of the item that is done
+-- each commit of a round on item i that has polled only these stations gets 8, up to the first lay that is done or commit that finishes a change of item i
 abbrev pub NoneFinishes : ℕ → ℕ → Table → List Call → Type 0
 NoneFinishes i these t [] = Unit {0}
 NoneFinishes i these t (c ∷ calls) =
@@ -101,9 +102,10 @@ StaysUnheard i t (c ∷ calls) =
 pub record OutOfReach (t : Table) (i : ℕ) : Type 0 where
   -- no set of stations on the bus would be heard
   pub no-set-heard : (set : ℕ) → set ⊆ onBus (view t) → (g : ℕ) → HeardBy (view t) i set g → ⊥
-  -- so no round that polls only these stations can finish, the one that is open included, whoever comes on later
+  -- so no round that polls only these stations can finish, the one that is open included, until a lay or a change of the item is done
   pub none-finishes : (calls : List Call) → AllPassable calls → NoneFinishes i (onBus (view t)) t calls
-  -- and no round on the item at all before a station comes on, if one that is open now has polled only stations on the bus
+  -- and no round on the item at all before a station comes on, which none does by a lay, if the open round, where it is on the item, has polled only
+  -- stations on the bus
   pub stays-unheard : ((view t .round .kind ≡ none → ⊥) → view t .round .item ≡ i → view t .round .polled ⊆ onBus (view t))
       → (calls : List Call) → AllPassable calls → StaysUnheard i t calls
 
@@ -114,6 +116,9 @@ DoneGiving e r = (r .number ≡ 0) × Gives e r
 -- the table t and the book after a list
 pub record OverLists (t : Table) (b : Book) : Type 0 where
   pub zero : (i : ℕ) → reply t (reach i) .number ≡ 0 → reply t (reach i) .first ≡ 0 → OutOfReach t i
+  -- whatever part of the stations on the bus is heard, they hold no write set of the configuration that it finds
+  pub one : (i : ℕ) → reply t (reach i) .first ≡ 1 → (set : ℕ) → set ⊆ onBus (view t) → (g : ℕ) → HeardBy (view t) i set g
+      → QuorumIn (writeSet (view t .copies i g .config)) (onBus (view t)) → ⊥
   -- the read that polls all stations on the bus, where no round is open, and where one is abandoned for it
   pub reads-the-book : (i : ℕ) (order : List ℕ) → Readable (reply t (reach i) .first) → AllOn (view t) order → view t .round .kind ≡ none
       → DoneGiving (entry (b .items) i) (reply (afterAll t (openRead i ∷ polls order)) commit)
