@@ -1,8 +1,9 @@
 -- Reach is exact (document 02, 2026-03). On every sound table with no open round its figure says what a round that polls all stations on the bus can do.
--- After an opening of the item and these polls it is heard exactly if the figure is 1 or 3. With data puts at all of them a write finishes exactly if it is 3 and
--- no copy of the item among them has a spent version; with both puts a change finishes exactly if it is 3, they hold a write set of its target, and no copy
--- has a spent generation. Over every list of demand 3 it speaks of rounds that poll a part of them too: where it is 0 none is heard, so that none finishes;
--- where it is 1 none of them finds a configuration whose write sets they hold. And where it is 1 or 3, the read that polls them all gives the book's figures.
+-- After an opening of the item and these polls it is heard exactly if the figure is 1 or 3. With data puts at all of them a write finishes exactly if it is 3
+-- and no copy of the item among them has a spent version; with both puts a change finishes exactly if it is 3, they hold a write set of its target, and no
+-- copy has a spent generation. Over every list of demand 3 it speaks of rounds that poll a part of them too: where it is 0 none is heard, so that none
+-- finishes; where it is 1 none of them finds a configuration whose write sets they hold. And where it is 1 or 3, the read that polls them all gives the
+-- book's figures.
 use mathlib.Core.Path.{_≡_}
 use mathlib.Core.Bool.{Bool, true, false, _||_}
 use mathlib.Core.List.{List, [], _∷_, _++_}
