@@ -9,12 +9,12 @@ use lib.Dec.{ltb, eqb}
 use borrow.Author.Tests.{ne-eqb}
 use Rattle.basics.specs.Bytes.{AreBytes}
 use Rattle.basics.proofs.Tests.{clash}
-use Rattle.quorum.specs.Sets.{member, join, remove, full, minus}
+use Rattle.quorum.specs.Sets.{member, join, remove}
 use Rattle.quorum.specs.Configurations.{valid}
 use Rattle.layout.specs.Fields.{Kind, none, read, write, change}
 use Rattle.layout.specs.Rounds.{withPoll, withPut, withLink}
 use Rattle.layout.specs.Newest.{hears}
-use Rattle.layout.specs.View.{Table, State, view, own, foundByVersion, foundByGeneration, heard, SameContents}
+use Rattle.layout.specs.View.{Table, State, view, own, foundByVersion, foundByGeneration, heard, onBus, SameContents}
 use Rattle.layout.proofs.Soundness.{is-sound}
 use Rattle.layout.proofs.Newer.{by-version-same, by-generation-same, hears-same}
 use Rattle.layout.proofs.Stored.{stored}
@@ -175,7 +175,7 @@ module _ (v w : State) (a : Alike v w) (listed : v .isSound ≡ true → v .roun
       record {
         tested = λ _ j. (not (ltb i (same .m j)), 2) ∷ [];
         figures = λ h. let e : (s : ℕ) → s < v .n → v .copies i s ≡ w .copies i s = λ s l. same .copies i s (rw (same .m) at (h .1 .0)) (rw (same .n) at l) in
-            let on = minus (full (v .n)) (v .off) in
+            let on = onBus v in
             rw (hears-same (v .copies i) (w .copies i) on (v .n) e, by-generation-same (v .copies i) (w .copies i) on (v .n) e) (rw (same .n, same .off) refl);
         states = λ _. record { n = same .n; m = same .m; off = same .off; round = same .round; copies = same .copies };
       }

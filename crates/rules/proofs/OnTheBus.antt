@@ -34,6 +34,7 @@ use Rattle.rules.specs.ReachExact.{among, AllOn, polls, puts, Opens, of-
 use Rattle.rules.specs.ReachExact.{Readable, AllDone, lastFigure, PollsSay, Closes, SpentOn}
 use Rattle.rules.proofs.Judged.{numbered, a-round}
 use Rattle.rules.proofs.Demand1.{Shows, reply-figures}
+use Rattle.rules.proofs.Steps.{one, three}
 use Rattle.rules.proofs.Laws.{done-allowed, next-view, length-kept, bytes-kept}
 use Rattle.rules.proofs.Kept.{after-sound}
 use Rattle.rules.proofs.Asking.{on-bus, joined, all-data, all-config, Asking, same-reply, commit-number, all-polled, AllPut, all-put}
@@ -68,9 +69,6 @@ allHeard v i = hears (v .copies i) (onBus v) (v .n)
 abbrev pub canWrite : State → ℕ → Bool
 canWrite v i = holdsWrite (byGeneration (v .copies i) (onBus v) (v .n) .config) (onBus v)
 
-abbrev three : Bool → Bool → ℕ
-three h w = cond h (cond w 3 1) 0
-
 pub reads-told : (h w : Bool) → Readable (three h w) ↔ (h ≡ true)
 reads-told true true = (λ r. refl, λ e. inr refl)
 reads-told true false = (λ r. refl, λ e. inl refl)
@@ -81,10 +79,10 @@ zero-told true true = (λ e. absurd (omega arith), λ e. clash refl e)
 zero-told true false = (λ e. absurd (omega arith), λ e. clash refl e)
 zero-told false w = (λ e. refl, λ e. refl)
 
-pub one-told : (h w : Bool) → (three h w ≡ 1) ↔ ((w ≡ false) × (h ≡ true))
-one-told true true = (λ e. absurd (omega arith), λ x. clash refl (x .0))
-one-told true false = (λ e. (refl, refl), λ x. refl)
-one-told false w = (λ e. absurd (omega arith), λ x. clash (x .1) refl)
+pub no-write-told : (h w : Bool) → three h w ≡ 1 → w ≡ false
+no-write-told true true e = absurd (omega arith)
+no-write-told true false e = refl
+no-write-told false w e = absurd (omega arith)
 
 write-told : (h w : Bool) → h ≡ true → (w ≡ true) ↔ (three h w ≡ 3)
 write-told true true e = (λ _. refl, λ _. refl)
@@ -96,9 +94,6 @@ via : {A B C : Type 0} → A ↔ B → C ↔ B → A ↔ C
 via p q = (λ a. q .1 (p .0 a), λ c. p .1 (q .0 c))
 
 -- the last poll's figure, and a commit's number
-abbrev one : Bool → ℕ
-one h = cond h 1 0
-
 polls-told : (h : Bool) → ((one h ≡ 1) ↔ (h ≡ true)) × ((one h ≡ 0) ↔ (h ≡ false))
 polls-told true = ((λ e. refl, λ e. refl), (λ e. absurd (omega arith), λ e. clash refl e))
 polls-told false = ((λ e. absurd (omega arith), λ e. clash e refl), (λ e. refl, λ e. refl))
@@ -111,6 +106,7 @@ closes-told false w s p spends writes =
       spent = (λ e. absurd (omega arith), λ x. clash (reads-told false w .0 (x .0)) refl);
       short = (λ e. absurd (omega arith), λ x. clash (reads-told false w .0 (x .0)) refl);
       finished = (λ e. absurd (omega arith), λ x. clash (reads-told false w .0 (x .0)) refl);
+      noOther = inr (inl refl);
     }
 closes-told true w true p spends writes =
     record {
@@ -118,6 +114,7 @@ closes-told true w true p spends writes =
       spent = (λ e. (reads-told true w .1 refl, spends refl .0 refl), λ x. refl);
       short = (λ e. absurd (omega arith), λ x. absurd (x .1 (spends refl .0 refl)));
       finished = (λ e. absurd (omega arith), λ x. absurd (x .1 (spends refl .0 refl)));
+      noOther = inr (inr (inl refl));
     }
 closes-told true w false true spends writes =
     record {
@@ -125,6 +122,7 @@ closes-told true w false true spends writes =
       spent = (λ e. absurd (omega arith), λ x. clash (spends refl .1 (x .1)) refl);
       short = (λ e. absurd (omega arith), λ x. absurd (x .2 (writes refl refl .0 refl)));
       finished = (λ e. (reads-told true w .1 refl, λ x. clash (spends refl .1 x) refl, writes refl refl .0 refl), λ x. refl);
+      noOther = inl refl;
     }
 closes-told true w false false spends writes =
     record {
@@ -132,6 +130,7 @@ closes-told true w false false spends writes =
       spent = (λ e. absurd (omega arith), λ x. clash (spends refl .1 (x .1)) refl);
       short = (λ e. (reads-told true w .1 refl, λ x. clash (spends refl .1 x) refl, λ y. clash (writes refl refl .1 y) refl), λ x. refl);
       finished = (λ e. absurd (omega arith), λ x. clash (writes refl refl .1 (x .2)) refl);
+      noOther = inr (inr (inr refl));
     }
 
 -- ---- one table, and one of its items

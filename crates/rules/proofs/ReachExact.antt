@@ -1,7 +1,7 @@
 -- Reach is exact. Over every list of demand 3 the table follows the book, so that a heard round has found the current configuration, and more polls keep it
 -- heard: where all stations on the bus are not heard, no part of them is, and where they are, they give what is current.
 use mathlib.Core.Path.{_≡_, refl, sym, ap, _∙_}
-use mathlib.Core.Bool.{true, false, cond}
+use mathlib.Core.Bool.{true, false}
 use mathlib.Core.List.{List, [], _∷_}
 use mathlib.Core.Logic.{inl, ⊎-elim}
 use Prim.Native.Nat.{ℕ, zero, suc, _<_}
@@ -35,10 +35,11 @@ use Rattle.rules.proofs.Judged.{numbered}
 use Rattle.rules.proofs.Demand1.{refusal-has-no-figures}
 use Rattle.rules.proofs.Copies.{heard-current, heard-grows}
 use Rattle.rules.proofs.Book.{Follows}
+use Rattle.rules.proofs.Steps.{three}
 use Rattle.rules.proofs.Laws.{done-allowed, done-step, bytes-kept}
 use Rattle.rules.proofs.Kept.{after-sound, stays-sound}
 use Rattle.rules.proofs.Demand3.{goes-on, begins}
-use Rattle.rules.proofs.OnTheBus.{allHeard, canWrite, one-told, reads-told, zero-told, reach-figure, read-shows, asks-read}
+use Rattle.rules.proofs.OnTheBus.{allHeard, canWrite, no-write-told, reads-told, zero-told, reach-figure, read-shows, asks-read}
 use Rattle.rules.proofs.OnTheBus.{exact-hears, exact-reads, exact-writes, exact-changes}
 use Rattle.rules.proofs.Alike.{alike-tables}
 use Rattle.rules.proofs.OutOfReach.{stays}
@@ -65,7 +66,7 @@ module _ (t : Table) (b : Book) (bytes : AreBytes t) (isSound : sound t ≡ true
   asked = isSound
 
   module _ (i : ℕ) (item : i < now .m) where
-    figure : reply t (reach i) .first ≡ cond (allHeard now i) (cond (canWrite now i) 3 1) 0
+    figure : reply t (reach i) .first ≡ three (allHeard now i) (canWrite now i)
     figure = reach-figure t bytes asked i item
 
     valid-there : (s : ℕ) → s < now .n → valid (now .n) (now .copies i s .config) ≡ true
@@ -89,7 +90,7 @@ module _ (t : Table) (b : Book) (bytes : AreBytes t) (isSound : sound t ≡ true
         let all = heard-current (now .n) copies _ _ _ (onBus now) k valid-there (heard-grows (now .n) copies _ _ _ set k valid-there (onBus now) inside h) in
         let same : copies g .config ≡ byGeneration copies (onBus now) (now .n) .config =
         ap (λ c. c .config) (sym (by-generation copies set (now .n) g (x .0))) ∙ part .config ∙ sym (all .config) in
-        clash (promise .holds-write _ (onBus now) .1 (rw same at q)) (one-told (allHeard now i) (canWrite now i) .0 (sym figure ∙ e) .0)
+        clash (promise .holds-write _ (onBus now) .1 (rw same at q)) (no-write-told (allHeard now i) (canWrite now i) (sym figure ∙ e))
 
     out-of-reach : reply t (reach i) .first ≡ 0 → OutOfReach t i
     out-of-reach e =

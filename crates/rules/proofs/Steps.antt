@@ -65,10 +65,10 @@ removed : (a s b : ℕ) → b ≡ remove a s → Removed a s b
 removed a s b e i = ap (λ x. member x i) e ∙ promise .member-remove a i s
 
 -- ---- figures that tests give
-abbrev one : Bool → ℕ
+abbrev pub one : Bool → ℕ
 one b = cond b 1 0
 
-abbrev three : Bool → Bool → ℕ
+abbrev pub three : Bool → Bool → ℕ
 three a b = cond a (cond b 3 1) 0
 
 module _ {A : Type 0} where

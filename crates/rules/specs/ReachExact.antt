@@ -73,12 +73,13 @@ pub record PollsSay (figure : ℕ) (answers : List Reply) : Type 0 where
   pub unheard : (lastFigure 0 answers ≡ 0) ↔ (figure ≡ 0)
 
 -- the number of the commit after such calls, by whether a counter that the round must raise is spent, and whether the quorums that it must write are on the
--- bus. There is no other number, since there is no other figure (`Reached` of Steps.antt).
+-- bus
 pub record Closes (figure number : ℕ) (Spent OnBus : Type 0) : Type 0 where
   pub unheard : (number ≡ 8) ↔ (figure ≡ 0)
   pub spent : (number ≡ 10) ↔ (Readable figure × Spent)
   pub short : (number ≡ 11) ↔ (Readable figure × (Spent → ⊥) × (OnBus → ⊥))
   pub finished : (number ≡ 0) ↔ (Readable figure × (Spent → ⊥) × OnBus)
+  pub noOther : (number ≡ 0) ⊎ ((number ≡ 8) ⊎ ((number ≡ 10) ⊎ (number ≡ 11)))
 
 -- some copy of item i at a station on the bus has the last number of a counter, which has eight bytes: that number is then the greatest, the one found
 abbrev pub SpentOn : (Copy → ℕ) → State → ℕ → Type 0
