@@ -8,8 +8,8 @@
  *
  * The parts to copy are wire, which links the stations, advice_on, which has a
  * branch for every number that a call can give, run_round, which brings a
- * round to its end, and retire, which asks for reach before a station goes for
- * good.
+ * round to its end, print_diagnosis, which says what held it up if it has to be
+ * given up, and retire, which asks for reach before a station goes for good.
  */
 #include "ospreyscreen.h"
 
@@ -232,7 +232,7 @@ static bool hear(void)
         ospreyscreen_reply reply = ospreyscreen_poll(table, sizeof table, s);
         switch (advice_on(reply)) {
         case GO_ON:
-            if (reply.first == 1) {
+            if (reply.first != 0) { /* one plus the read place held */
                 return true;
             }
             break;
@@ -283,7 +283,8 @@ static bool put_for(enum ospreyscreen_round kind)
 
 /* Runs the round and tells whether it was finished, with its figures. A
  * station that drops takes its put along, so a short round is tried again;
- * one that gets nowhere is abandoned, and no copy has changed. */
+ * one that gets nowhere is abandoned, and no copy has changed. The figures are
+ * then those of a diagnose: what held the round up at last. */
 static bool run_round(const plan *p, ospreyscreen_reply *figures)
 {
     open_round(p);
@@ -302,8 +303,41 @@ static bool run_round(const plan *p, ospreyscreen_reply *figures)
         }
         night(); /* time goes by, and stations may return */
     }
+    *figures = must("diagnose", ospreyscreen_diagnose(table, sizeof table));
     must("abandon", ospreyscreen_abandon(table, sizeof table));
     return false;
+}
+
+/* The word of a number that commit gives on an open round: one of these four. */
+static const char *word_of(uint64_t number)
+{
+    switch (number) {
+    case OSPREYSCREEN_DONE:
+        return "done";
+    case OSPREYSCREEN_UNHEARD:
+        return "unheard";
+    case OSPREYSCREEN_SPENT:
+        return "spent";
+    default: /* OSPREYSCREEN_SHORT */
+        return "short";
+    }
+}
+
+/* A diagnose in words, for the fitter. Figures of stations and read places are
+ * one more than their numbers, and 0 for none. */
+static void print_diagnosis(ospreyscreen_reply d)
+{
+    printf("commit would get %" PRIu64 " %s; ", d.first, word_of(d.first));
+    if (d.second != 0) {
+        printf("version from station %" PRIu64 "; ", d.second - 1);
+    } else {
+        printf("nothing polled; ");
+    }
+    if (d.third != 0) {
+        printf("read place %" PRIu64 " held\n", d.third - 1);
+    } else {
+        printf("no read place held\n");
+    }
 }
 
 /* ---- The record ---- */
@@ -318,6 +352,7 @@ typedef struct {
 static entry record[ITEMS];
 static unsigned long finished[OSPREYSCREEN_ROUND_CHANGE + 1];
 static unsigned long given_up[OSPREYSCREEN_ROUND_CHANGE + 1];
+static unsigned long held_up_by[OSPREYSCREEN_SHORT + 1];
 
 /* Every finished round has to show what the record has. */
 static void check(uint64_t item, ospreyscreen_reply figures)
@@ -338,6 +373,11 @@ static bool run_and_check(const plan *p)
 
     if (!run_round(p, &figures)) {
         given_up[p->kind]++;
+        held_up_by[figures.first]++;
+        if (p->kind == OSPREYSCREEN_ROUND_CHANGE) {
+            printf("change of item %" PRIu64 " given up: ", p->item);
+            print_diagnosis(figures);
+        }
         return false;
     }
     finished[p->kind]++;
@@ -459,6 +499,11 @@ static void print_summary(void)
     print_rounds("reads", OSPREYSCREEN_ROUND_READ);
     print_rounds("writes", OSPREYSCREEN_ROUND_WRITE);
     print_rounds("changes", OSPREYSCREEN_ROUND_CHANGE);
+    for (uint64_t number = OSPREYSCREEN_DONE; number <= OSPREYSCREEN_SHORT; number++) {
+        if (held_up_by[number] != 0) {
+            printf("given up as %s: %lu\n", word_of(number), held_up_by[number]);
+        }
+    }
     for (int number = OSPREYSCREEN_UNSOUND; number <= OSPREYSCREEN_FALSE_FRAME; number++) {
         if (seen[number] != 0) {
             printf("refused with %d: %lu\n", number, seen[number]);

@@ -39,7 +39,7 @@ extern "C" {
 
 /* The version of this header and of the library that belongs to it. */
 #define OSPREYSCREEN_VERSION_MAJOR 0
-#define OSPREYSCREEN_VERSION_MINOR 4
+#define OSPREYSCREEN_VERSION_MINOR 5
 #define OSPREYSCREEN_VERSION_PATCH 0
 #define OSPREYSCREEN_VERSION_STRING                                                                \
     OSPREYSCREEN_DOTTED_(OSPREYSCREEN_VERSION_MAJOR, OSPREYSCREEN_VERSION_MINOR,                   \
@@ -95,7 +95,8 @@ enum ospreyscreen_call {
     OSPREYSCREEN_COMMIT = 7,
     OSPREYSCREEN_ABANDON = 8,
     OSPREYSCREEN_LINK = 9,
-    OSPREYSCREEN_REACH = 10
+    OSPREYSCREEN_REACH = 10,
+    OSPREYSCREEN_DIAGNOSE = 11
 };
 
 /* The kind of round that is open, as byte 4 of a table's head keeps it. */
@@ -178,9 +179,11 @@ ospreyscreen_reply ospreyscreen_open_change(uint8_t *table, size_t len, uint64_t
  * Polls the station: its copy now counts in the round. Polling a station
  * again changes nothing. Polls come before puts: a poll gets 7 while any put
  * stands, and is allowed again if drops have emptied both put sets.
- * Figures: first is 1 if the round is now heard, else 0. A round is heard if
- * the polled set holds a read set of the configuration found, which is the
- * one of the highest generation among the polled copies.
+ * Figures: first is one plus the first read place held now, or 0. Place 0 to
+ * 7 is that of a read set in the configuration found, which is the one of the
+ * highest generation among the polled copies, the lowest station's on equal
+ * generations; a used place is held if all stations of its set are polled.
+ * The round is heard if a place is held, so if this figure is not 0.
  * Refusals: 1 table, 2 station, 5 no round, 6 the station is off,
  * 7 a put set is not empty.
  */
@@ -248,6 +251,22 @@ ospreyscreen_reply ospreyscreen_link(uint8_t *table, size_t len, uint64_t statio
  * Refusals: 1 table, 2 item.
  */
 ospreyscreen_reply ospreyscreen_reach(const uint8_t *table, size_t len, uint64_t item);
+
+/*
+ * Tells what holds the open round up: what a commit would get now, and what the
+ * polled copies have given so far. Changes no byte, so that a commit right
+ * after it gets the number that it told, and is done if that is 0.
+ * Figures:
+ * - first is the number that commit would give now: 0, or 8, 10 or 11, as they
+ *   stand there;
+ * - second is one plus the station that gave the version: of the polled
+ *   stations, on the bus or off by now, the lowest that has the highest version,
+ *   whether the round is heard or not; 0 if nothing is polled;
+ * - third is one plus the first read place held, as poll's figure has it; 0 if
+ *   the round is not heard.
+ * Refusals: 1 table, 5 no round, where commit gets them too.
+ */
+ospreyscreen_reply ospreyscreen_diagnose(const uint8_t *table, size_t len);
 
 /*
  * Turns votes into the configuration that they stand for, as lay and

@@ -11,6 +11,7 @@ usage: test_docs.py RUNNER FORMAT_DUMP VOTES
 - The block that begins with ```dump: FORMAT_DUMP has to print the same bytes.
 - Blocks that begin with ```votes: a make command and a line. VOTES, the example,
   has to print that line.
+- Tables of frames: their calls and lengths are those that the runner knows.
 - Names of files and folders: each has to be there.
 - Names of definitions in docs/CLAIMS.md and docs/PROOFS.md: each has to stand
   in some file of the crates.
@@ -32,11 +33,13 @@ DOCUMENTS = [ROOT / "README.md", *sorted((ROOT / "docs").glob("*.md"))]
 RUNNER, FORMAT_DUMP, VOTES = "", "", ""
 
 SURVIVES = re.compile(r"(?:reads|writes) survive (?:no|any (\d+)) drops?(?:, and (\d+) of (\d+) choices of (\d+))?")
+FRAME_ROW = re.compile(r"^\| ([0-9A-F]{2}) \| ([a-z ]+) \|.*\| (\d+) \|$", re.MULTILINE)
 PATH = re.compile(r"`([\w.-]+(?:/[\w.-]+)*/?)`")
 DEFINED = re.compile(r"`(?:\w+::)*([A-Za-z][\w-]*)`")
 MADE = ("build/", "target/")
 ANY_CRATE = ("specs/", "proofs/")
 NOTHING, READ = 0, 1
+LONGEST_FRAME, FALSE_FRAME = 43, "0C"
 
 
 def output_of(command, text=""):
@@ -123,6 +126,22 @@ class Documents(unittest.TestCase):
         printed = output_of([FORMAT_DUMP]).splitlines()
         (_, shown), = all_blocks("dump")
         self.assertEqual([line[:len(printed[0])].rstrip() for line in shown], printed)
+
+
+class FrameTables(unittest.TestCase):
+    def known(self):
+        """Code, name and length of every frame that the runner knows."""
+        frames = [f"{code:02X}" + "00" * more for code in range(256) for more in range(LONGEST_FRAME + 1)]
+        replies = output_of([RUNNER], "\n".join(frames) + "\n").splitlines()
+        good = [(frame, reply) for frame, reply in zip(frames, replies, strict=True) if reply[2:4] != FALSE_FRAME]
+        names = output_of([*FRAMES, "decode"], "\n".join(reply for _, reply in good) + "\n").splitlines()
+        return [(frame[:2], name.split(":")[0], str(len(frame) // 2)) for (frame, _), name in zip(good, names)]
+
+    def test_frame_tables(self):
+        known = self.known()
+        for name in ("README.md", "docs/FORMAT.md"):
+            with self.subTest(document=name):
+                self.assertEqual(FRAME_ROW.findall((ROOT / name).read_text()), known)
 
 
 # ---- Names ----

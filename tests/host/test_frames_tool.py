@@ -1,8 +1,9 @@
 """Tests of tools/frames: fixed words, round trips, wrong words.
 
-usage: test_frames_tool.py PRINT_CALLS
+usage: test_frames_tool.py PRINT_CALLS [RUNNER]
 
-PRINT_CALLS prints the calls as the C tests have them.
+PRINT_CALLS prints the calls as the C tests have them. With the frame runner its
+own replies are shown in words too.
 """
 
 import importlib.machinery
@@ -14,8 +15,8 @@ import sys
 import unittest
 
 TOOL = pathlib.Path(__file__).resolve().parents[2] / "tools" / "frames"
-PRINT_CALLS = ""
-LENGTHS = [43, 2, 10, 34, 2, 3, 1, 1, 3, 2]  # document 01's, by code
+PRINT_CALLS, RUNNER = "", ""
+LENGTHS = [43, 2, 10, 34, 2, 3, 1, 1, 3, 2, 1]  # by code: document 01's, then document 02's
 PAIRS = "030005000600" + "0" * 20
 
 # Words and the frame that they stand for.
@@ -38,6 +39,7 @@ FRAMES = [
     ("link 2 on", "090201"),
     ("link 2 7", "090207"),
     ("reach 0", "0A00"),
+    ("diagnose", "0B"),
 ]
 
 # Configurations as digits: words and the frame.
@@ -52,11 +54,21 @@ DIGIT_FRAMES = [
 
 ZEROS = "0" * 48
 
+
+def figures(*numbers):
+    """The digits of three figures."""
+    return b"".join(number.to_bytes(8, "little") for number in numbers).hex().upper()
+
+
 # Reply lines and the words that they are shown as.
 REPLIES = [
     ("0100" + ZEROS, "lay: done"),
     ("0500" + ZEROS, "poll: done, not heard"),
-    ("050001" + ZEROS[2:], "poll: done, heard"),
+    ("0500" + figures(1, 0, 0), "poll: done, heard, read place 0 held"),
+    ("0500" + figures(8, 0, 0), "poll: done, heard, read place 7 held"),
+    ("0500" + figures(9, 0, 0), "poll: done, figures 9 0 0"),
+    ("0500" + figures(2, 3, 4), "poll: done, heard, read place 1 held, figures 0 3 4"),
+    ("0500" + figures(0, 0, 5), "poll: done, not heard, figures 0 0 5"),
     ("0506" + ZEROS, "poll: refused, 6 off the bus"),
     ("0700FE01000000000000" + "0100000000000000" + "0" * 16,
      "commit: done, value 510, version 1, generation 0"),
@@ -68,6 +80,21 @@ REPLIES = [
     ("0A0001" + ZEROS[2:], "reach: done, 1 read"),
     ("0A0003" + ZEROS[2:], "reach: done, 3 read and write"),
     ("0A0002" + ZEROS[2:], "reach: done, figures 2 0 0"),
+    ("0B00" + figures(0, 1, 1), "diagnose: commit would get 0 done; version from station 0; read place 0 held"),
+    ("0B00" + figures(11, 3, 2), "diagnose: commit would get 11 short; version from station 2; read place 1 held"),
+    ("0B00" + figures(10, 16, 8), "diagnose: commit would get 10 spent; version from station 15; read place 7 held"),
+    ("0B00" + figures(8, 3, 0), "diagnose: commit would get 8 unheard; version from station 2; no read place held"),
+    ("0B00" + figures(8, 0, 0), "diagnose: commit would get 8 unheard; nothing polled; no read place held"),
+    ("0B01" + ZEROS, "diagnose: refused, 1 unsound"),
+    ("0B05" + ZEROS, "diagnose: refused, 5 idle"),
+    ("0B0C" + ZEROS, "diagnose: refused, 12 false frame"),
+    # what cannot come
+    ("0B00" + figures(11, 17, 2), "diagnose: done, figures 11 17 2"),
+    ("0B00" + figures(11, 3, 9), "diagnose: done, figures 11 3 9"),
+    ("0B00" + figures(15, 3, 2), "diagnose: done, figures 15 3 2"),
+    ("0B00" + "F" * 48, "diagnose: done, figures" + " 18446744073709551615" * 3),
+    ("0B05" + figures(11, 3, 2), "diagnose: refused, 5 idle, figures 11 3 2"),
+    ("0B63" + ZEROS, "diagnose: refused, 99 unknown number"),
     ("000C" + ZEROS, "call 00: refused, 12 false frame"),
     ("FF0C" + ZEROS, "call FF: refused, 12 false frame"),
     ("010D" + ZEROS, "lay: refused, 13 false votes"),
@@ -76,13 +103,36 @@ REPLIES = [
     ("0801" + "0" * 46 + "80", "abandon: refused, 1 unsound, figures 0 0 9223372036854775808"),
 ]
 
-FALSE_FRAMES = ["", "0", "07 ", "07\r", "0a00", "0700", "05", "0B", "00", "02GG", "5", "0" * 100,
+# Words, and the runner's replies to them in words.
+SESSION = [
+    ("diagnose", "diagnose: refused, 1 unsound"),
+    ("lay 3 1 500 read 0003 0005 0006 write 0003 0005 0006", "lay: done"),
+    ("link 0 on", "link: done"),
+    ("link 1 on", "link: done"),
+    ("link 2 on", "link: done"),
+    ("diagnose", "diagnose: refused, 5 idle"),
+    ("open write 0 510", "open write: done"),
+    ("diagnose", "diagnose: commit would get 8 unheard; nothing polled; no read place held"),
+    ("poll 1", "poll: done, not heard"),
+    ("diagnose", "diagnose: commit would get 8 unheard; version from station 1; no read place held"),
+    ("poll 2", "poll: done, heard, read place 2 held"),
+    ("put 1 data", "put: done"),
+    ("put 2 data", "put: done"),
+    ("diagnose", "diagnose: commit would get 0 done; version from station 1; read place 2 held"),
+    ("commit", "commit: done, value 510, version 1, generation 0"),
+    ("open write 0 520", "open write: done"),
+    ("poll 0", "poll: done, not heard"),
+    ("poll 2", "poll: done, heard, read place 1 held"),
+    ("diagnose", "diagnose: commit would get 11 short; version from station 2; read place 1 held"),
+]
+
+FALSE_FRAMES = ["", "0", "07 ", "07\r", "0a00", "0700", "05", "0B00", "0C", "0C00", "00", "02GG", "5", "0" * 100,
                 "0500" + "\0", "05 0", "0506" + ZEROS.replace("0", "g")]
 
 WRONG_WORDS = [
     "pole 1", "open", "open shut 0", "poll", "poll 1 2", "poll 256", "poll -1", "poll x", "poll 1_0",
     "open write 0", "open write 0 18446744073709551616", "put 0", "put 0 datum", "put 0 256",
-    "link 0 maybe", "commit now", "lay 3 1 500", "lay 3 1 500 read 0003",
+    "link 0 maybe", "commit now", "diagnose 0", "diagnose commit", "lay 3 1 500", "lay 3 1 500 read 0003",
     "lay 3 1 500 write 0003 read 0003", "open change 0 read 10000 write 0001",
     "open change 0 read 0x01 write 0001", "open change 0 read write write",
     "open change 0 read " + "0001 " * 9 + "write 0001",
@@ -152,6 +202,14 @@ class FramesTool(unittest.TestCase):
         got, _ = output_lines("decode", lines=[reply for reply, _ in REPLIES])
         self.assertEqual(got, [words for _, words in REPLIES])
 
+    def test_session_of_the_runner(self):
+        if not RUNNER:
+            self.skipTest("no runner given")
+        frames = run("encode", text="".join(words + "\n" for words, _ in SESSION)).stdout
+        replies = subprocess.run([RUNNER], input=frames, capture_output=True, check=True).stdout
+        got = run("decode", text=replies.decode("ascii")).stdout.decode("ascii").splitlines()
+        self.assertEqual(got, [said for _, said in SESSION])
+
     def test_false_frames(self):
         got, result = output_lines("decode", lines=FALSE_FRAMES)
         self.assertEqual(got, ["false frame"] * len(FALSE_FRAMES))
@@ -161,7 +219,7 @@ class FramesTool(unittest.TestCase):
         source = random.Random(1)
         frames = []
         for _ in range(2000):
-            code = source.randrange(10)
+            code = source.randrange(len(LENGTHS))
             data = bytes([code + 1]) + source.randbytes(LENGTHS[code] - 1)
             frames.append(data.hex().upper())
         words, _ = output_lines("decode", lines=frames)
@@ -199,5 +257,5 @@ class FramesTool(unittest.TestCase):
 
 
 if __name__ == "__main__":
-    PRINT_CALLS = sys.argv.pop(1)
-    unittest.main()
+    PRINT_CALLS, RUNNER = (sys.argv[1:] + [""])[:2]
+    unittest.main(argv=sys.argv[:1])

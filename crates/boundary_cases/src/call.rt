@@ -1,6 +1,7 @@
-// The ten calls by code.
+// The eleven calls by code.
 use ospreyscreen::ospreyscreen_abandon;
 use ospreyscreen::ospreyscreen_commit;
+use ospreyscreen::ospreyscreen_diagnose;
 use ospreyscreen::ospreyscreen_lay;
 use ospreyscreen::ospreyscreen_link;
 use ospreyscreen::ospreyscreen_open_change;
@@ -32,10 +33,12 @@ pub const LINK: u64 = 9;
 
 pub const REACH: u64 = 10;
 
+pub const DIAGNOSE: u64 = 11;
+
 // The number for any other code.
 pub const UNKNOWN: u64 = 99;
 
-// The calls of the last five codes.
+// The calls of the last six codes.
 fn later(table: &mut [u8], code: u64, a: u64, b: u64) -> Reply {
     match code {
         PUT => ospreyscreen_put(table, a, b),
@@ -43,6 +46,7 @@ fn later(table: &mut [u8], code: u64, a: u64, b: u64) -> Reply {
         ABANDON => ospreyscreen_abandon(table),
         LINK => ospreyscreen_link(table, a, b),
         REACH => ospreyscreen_reach(table, a),
+        DIAGNOSE => ospreyscreen_diagnose(table),
         _ => Reply {
             number: UNKNOWN,
             first: 0,

@@ -1,7 +1,7 @@
 // Calls as the script writes them: a word, and numbers in decimal.
 
-// The words by code, each a number of its letters' bytes, the last letter's the least significant. Codes 1 to 10 are document 01's.
-const WORDS: [u64; 18] = [
+// The words by code, each a number of its letters' bytes, the last letter's the least significant. Codes 1 to 11 are those of the frames.
+const WORDS: [u64; 19] = [
     0x6C6179, // 1 lay
     0x72656164, // 2 read
     0x7772697465, // 3 write
@@ -12,14 +12,15 @@ const WORDS: [u64; 18] = [
     0x6162616E646F6E, // 8 abandon
     0x6C696E6B, // 9 link
     0x7265616368, // 10 reach
-    0x6C656E64, // 11 lend
-    0x7061697273, // 12 pairs
-    0x73657473, // 13 sets
-    0x62797465, // 14 byte
-    0x6E756D626572, // 15 number
-    0x6E696E65, // 16 nine
-    0x7468726565, // 17 three
-    0x6669667465656E, // 18 fifteen
+    0x646961676E6F7365, // 11 diagnose
+    0x6C656E64, // 12 lend
+    0x7061697273, // 13 pairs
+    0x73657473, // 14 sets
+    0x62797465, // 15 byte
+    0x6E756D626572, // 16 number
+    0x74656E, // 17 ten
+    0x7468726565, // 18 three
+    0x6669667465656E, // 19 fifteen
 ];
 
 // A call as far as it is read: its word, its numbers, and which of them is read. The word has number 0.
@@ -31,7 +32,7 @@ pub struct Call {
 
 // The code of a word; 0 if it has none.
 pub fn code_of(word: u64) -> u64 {
-    let mut code = 18;
+    let mut code = 19;
     while code > 0 {
         if WORDS[code - 1] == word {
             return code as u64;

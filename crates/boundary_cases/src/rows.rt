@@ -2,6 +2,7 @@
 use crate::call::ABANDON;
 use crate::call::CHANGE;
 use crate::call::COMMIT;
+use crate::call::DIAGNOSE;
 use crate::call::LAY;
 use crate::call::LINK;
 use crate::call::POLL;
@@ -16,8 +17,8 @@ use crate::show::reply;
 // Set 0004 on both sides, the target of every change here.
 const TARGET: [u8; 32] = *b"\x04\0\0\0\0\0\0\0\0\0\0\0\0\0\0\0\x04\0\0\0\0\0\0\0\0\0\0\0\0\0\0\0";
 
-// The nine calls but lay, each on item 0 or station 2.
-const NINE: [u64; 27] = [
+// The ten calls but lay, each on item 0 or station 2; diagnose comes right before commit.
+const TEN: [u64; 30] = [
     READ,
     0,
     0,
@@ -33,6 +34,9 @@ const NINE: [u64; 27] = [
     PUT,
     2,
     1,
+    DIAGNOSE,
+    0,
+    0,
     COMMIT,
     0,
     0,
@@ -62,8 +66,8 @@ fn calls(table: &mut [u8], rows: &[u64], shown: bool) {
     }
 }
 
-pub fn nine(table: &mut [u8]) {
-    calls(table, &NINE, true);
+pub fn ten(table: &mut [u8]) {
+    calls(table, &TEN, true);
 }
 
 // The call that opens a round of a kind, 1 read, 2 write or 3 change; for 0 one that is refused.
@@ -102,10 +106,10 @@ fn prepare(table: &mut [u8], config: &[u8], three: bool, kind: u64) {
     calls(table, &STEPS, false);
 }
 
-// The nine calls on such a table with one byte changed; then the byte is as it was.
+// The ten calls on such a table with one byte changed; then the byte is as it was.
 pub fn damaged(table: &mut [u8], config: &[u8], three: bool, kind: u64, at: u64, byte: u64) {
     prepare(table, config, three, kind);
     let was = replace(table, at, byte);
-    nine(table);
+    ten(table);
     replace(table, at, was as u64);
 }

@@ -3,9 +3,11 @@ use mathlib.Core.Path.{_≡_, sym, ap, _∙_}
 use mathlib.Core.List.{List}
 use Prim.Native.Nat.{ℕ}
 use borrow.Author.Tests.{ne-eqb}
-use Rattle.layout.specs.Fields.{newCopy}
+use Rattle.layout.specs.Fields.{stations, newCopy}
 use Rattle.layout.specs.Updates.{putCopies, closed}
 use Rattle.layout.specs.View.{view}
+use Rattle.rounds.specs.Round.{roundIn, asRound}
+use Rattle.rounds.specs.declared.round.Round.{Round}
 use Rattle.rules.specs.Calls.{commit}
 use Rattle.rules.specs.Rules.{numberOf}
 use Rattle.rules.specs.Figures.{closing, figuresOf}
@@ -35,10 +37,10 @@ module _ (t : List ℕ) {r : Reply} (e : r ≡ reply t commit) where
       let third : r .third ≡ f .third = ap (λ x. x .third) e ∙ rw z in
       λ i. newCopy (second i) (first i) (third i) (view t .round .target)
 
-  pub commit-finished : {u : List ℕ} → r .number ≡ 0
-      → u ≡ closed (putCopies t (view t .n) (view t .round) (newCopy (r .second) (r .first) (r .third) (view t .round .target)) (view t .n))
-      → Answers t commit r u
-  unfolding after done
-  commit-finished h q =
+  -- by the stations and the round that were read
+  pub commit-finished : {u : List ℕ} {n : ℕ} {round : Round} → r .number ≡ 0 → n ≡ stations t → round ≡ roundIn t
+      → u ≡ closed (putCopies t n (asRound round) (newCopy (r .second) (r .first) (r .third) (round .target)) n) → Answers t commit r u
+  unfolding after done view
+  commit-finished h a b q =
       let z : numberOf (view t) commit ≡ 0 = sym commit-number ∙ h in
-      (e, q ∙ rw (z, stored-is h))
+      (e, q ∙ rw (a, b, z, stored-is h))

@@ -1,13 +1,14 @@
 -- The figures of poll and reach, from what the code's searches found.
 use mathlib.Core.Path.{_≡_, refl, ap, _∙_}
-use mathlib.Core.Bool.{Bool, true, cond}
+use mathlib.Core.Bool.{true, cond}
 use mathlib.Core.List.{List}
-use Prim.Native.Nat.{ℕ, _<_}
+use Prim.Native.Nat.{ℕ, _≤_, _<_}
 use Rattle.quorum.specs.Sets.{full, minus}
-use Rattle.quorum.specs.Configurations.{holdsRead, holdsWrite}
+use Rattle.quorum.specs.Configurations.{placeFigure, holdsRead, holdsWrite}
+use Rattle.quorum.specs.declared.Place.{Place}
 use Rattle.layout.specs.Layout.{address}
 use Rattle.layout.specs.Fields.{stations, items, offSet, roundOf, copyFrom}
-use Rattle.layout.specs.Newest.{newest, byGeneration, hears}
+use Rattle.layout.specs.Newest.{newest, byGeneration, heardPlace, hears}
 use Rattle.layout.specs.Rounds.{withPoll}
 use Rattle.layout.specs.Soundness.{sound}
 use Rattle.layout.specs.View.{view, onBus}
@@ -15,6 +16,7 @@ use Rattle.table.specs.Search.{asOption, InTable, copiesOf, generationsOf}
 use Rattle.table.specs.declared.newest.Station.{Station}
 use Rattle.table.specs.declared.newest.Station.the-variants.{At, Nobody}
 use Rattle.rounds.proofs.Hearing.{items-in-table, nobody-unheard}
+use Rattle.rules.proofs.Quorums.{place-fits}
 use Rattle.rules.specs.Calls.{poll}
 use Rattle.rules.specs.Figures.{oneFigure, reachFigure, figuresOf}
 use Rattle.rules.specs.Reply.{answer}
@@ -26,12 +28,16 @@ figureReply x = answer 0 (oneFigure x)
 
 -- ---- poll
 -- by the stations and the item that were read, and the polled set with one more station
-pub poll-figure : (t : List ℕ) (s : ℕ) {n i polled figure : ℕ} {heard : Bool} → n ≡ stations t → i ≡ roundOf t .item
-    → polled ≡ withPoll (roundOf t) s .polled → heard ≡ hears (copiesOf t n i) polled n → figure ≡ cond heard 1 0
+pub poll-figure : (t : List ℕ) (s : ℕ) {n i polled figure : ℕ} {place : Place} → n ≡ stations t → i ≡ roundOf t .item
+    → polled ≡ withPoll (roundOf t) s .polled → place ≡ heardPlace (copiesOf t n i) polled n → figure ≡ placeFigure place
     → figureReply figure ≡ answer 0 (figuresOf (view t) (poll s))
 unfolding figuresOf view
 poll-figure t s e f g h q =
-    let own = rw (e, f, g) at h in ap figureReply (q ∙ ap (λ b. cond b 1 0) own)
+    let own = rw (e, f, g) at h in ap figureReply (q ∙ ap placeFigure own)
+
+-- a place of the test for heard has a figure of at most 8
+pub place-small : (t : List ℕ) (n i polled : ℕ) {place : Place} → place ≡ heardPlace (copiesOf t n i) polled n → placeFigure place ≤ 8
+place-small t n i polled e = rw e (place-fits (byGeneration (copiesOf t n i) polled n .config) polled)
 
 -- ---- reach: what polling the stations on the bus finds
 -- the copies lie in the table, by the stations that were read

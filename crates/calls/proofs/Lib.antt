@@ -1,2 +1,3 @@
 pub mod Committing
 pub mod Figures
+pub mod Diagnosing

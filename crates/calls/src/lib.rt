@@ -1,29 +1,32 @@
 // The other calls but lay, on a sound table: each asks for its number, and if that is 0 does what it is for.
 ghost use mathlib.Core.Path.{_≡_};
-ghost use mathlib.Core.Bool.{true, cond};
+ghost use mathlib.Core.Bool.{true};
 ghost use Prim.Native.Nat.{_<_};
 ghost use Rattle.layout.specs.Fields.{items};
 ghost use Rattle.layout.specs.Soundness.{sound};
 ghost use Rattle.layout.specs.View.{view};
-ghost use Rattle.rules.specs.Calls.{poll, put, commit, link, reach};
+ghost use Rattle.rules.specs.Calls.{poll, put, commit, link, reach, diagnose};
 ghost use Rattle.rules.specs.Figures.{reachFigure};
 ghost use Rattle.rules.specs.Reply.{reply, after};
-use closing::commit_reply;
+use closing::look_ahead;
+use layout::NO_ROUND;
 use numbers::DATA;
 use numbers::DONE;
+use numbers::IDLE;
 use numbers::OFF;
 use numbers::link_number;
 use numbers::plain;
 use numbers::poll_number;
 use numbers::put_number;
 use numbers::reach_number;
-use rounds::heard::is_heard;
+use rounds::heard::heard_place;
 use rounds::round::Round;
 use rules::Reply;
 use table::copy::Generation;
 use table::copy::Version;
 use table::copy::address;
 use table::copy::config_at;
+use table::head::kind;
 use table::head::off_set;
 use table::head::set_off;
 use table::head::set_polled;
@@ -32,13 +35,6 @@ use table::head::stations;
 use table::newest::Station;
 use table::newest::search;
 use writes::finish;
-
-// 1 if the test holds, else 0.
-fn one_if(test: bool) -> u64
-    ensures { λ r. ⌜ r ≡ cond test 1 0 ⌝ }
-{
-    if test { 1 } else { 0 }
-}
 
 pub fn poll_on(t: &mut [u8], station: u64) -> Reply
     requires { ⌜ sound (now t) ≡ true ⌝ }
@@ -50,11 +46,11 @@ pub fn poll_on(t: &mut [u8], station: u64) -> Reply
         return plain(number);
     }
     let round = Round::of(t).poll(station as usize);
-    let heard = is_heard(t, stations(t), round.item, round.polled);
+    let place = heard_place(t, stations(t), round.item, round.polled);
     set_polled(t, round.polled);
     Reply {
         number: DONE,
-        first: one_if(heard),
+        first: sets::place_figure(place),
         second: 0,
         third: 0,
     }
@@ -79,14 +75,23 @@ pub fn commit_on(t: &mut [u8]) -> Reply
     ensures { λ r. ⌜ r ≡ reply (now (t .entry)) commit ⌝ }
     ensures { λ _. ⌜ now (t .exit) ≡ after (now (t .entry)) commit ⌝ }
 {
-    let round = Round::of(t);
-    let outcome = commit_reply(t, round);
+    if kind(t) == NO_ROUND {
+        return plain(IDLE);
+    }
+    let outcome = look_ahead(t).outcome;
     if outcome.number != DONE {
         return outcome;
     }
     let version = Version(outcome.second);
     let generation = Generation(outcome.third);
-    finish(t, stations(t), round, outcome.first, version, generation);
+    finish(
+        t,
+        stations(t),
+        Round::of(t),
+        outcome.first,
+        version,
+        generation,
+    );
     outcome
 }
 
@@ -147,5 +152,23 @@ pub fn reach_on(t: &[u8], i: u64) -> Reply
         first: reach_figure(t, i as usize),
         second: 0,
         third: 0,
+    }
+}
+
+// What holds a round up: commit's number, the station that gave the version, the read place held. Nothing is changed.
+pub fn diagnose_on(t: &[u8]) -> Reply
+    requires { ⌜ sound (now t) ≡ true ⌝ }
+    ensures { λ r. ⌜ r ≡ reply (now (t .entry)) diagnose ⌝ }
+{
+    if kind(t) == NO_ROUND {
+        return plain(IDLE);
+    }
+    let seen = look_ahead(t);
+    let outcome = seen.outcome;
+    Reply {
+        number: DONE,
+        first: outcome.number,
+        second: seen.station,
+        third: seen.place,
     }
 }

@@ -4,7 +4,7 @@ use Rattle.basics.specs.Tests.{all, allBelow, anyBelow}
 use Rattle.basics.specs.Bytes.{littleEndian, bytesOf, over}
 use Rattle.quorum.specs.Sets.{member, used, holds, shares, within, join, minus, remove, full}
 use Rattle.quorum.specs.Configurations.{setAt, readSet, writeSet, usedFirst, someUsed, allWithin, sharesAll, allShare, validity, valid}
-use Rattle.quorum.specs.Configurations.{holdsPlace, holdsRead, holdsWrite}
+use Rattle.quorum.specs.Configurations.{holdsPlace, firstPlace, orElse, firstRead, firstWrite, placeFigure, isPlace}
 use Rattle.layout.specs.Layout.{address, tableLength}
 use Rattle.layout.specs.Fields.{copyFrom}
 use Rattle.layout.specs.Soundness.{roundSound, copiesValid, soundness, sound}
@@ -21,7 +21,8 @@ use Rattle.cases.specs.Cases.{Cases, table, lastOf}
 pub cases : Cases
 unfolding all allBelow anyBelow littleEndian
     member used holds shares within join minus remove full
-    setAt readSet writeSet usedFirst someUsed allWithin sharesAll allShare validity valid holdsPlace holdsRead holdsWrite
+    setAt readSet writeSet usedFirst someUsed allWithin sharesAll allShare validity valid holdsPlace
+    firstPlace orElse firstRead firstWrite placeFigure isPlace
     address tableLength copyFrom roundSound copiesValid soundness sound newest byVersion byGeneration hears view
     bytesOf over setOff setPolled setPuts setRound putData putConfig copyBytes repeated putCopies
     first tests refusals numberOf figuresOf done replyOf after replies table lastOf

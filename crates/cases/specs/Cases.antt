@@ -1,12 +1,12 @@
 -- The starred cases of document 01, "Trays through the house", the mistakes of "What growers' programs get wrong", the stations of a new table and the
--- house whose sets move (document 02, 2026-02 and 2026-03), as one table: on bytes, from a lay on, call by call.
+-- house whose sets move, and what holds a round up (document 02, 2026-02 to 2026-04), as one table: on bytes, from a lay on, call by call.
 use mathlib.Core.Path.{_≡_}
 use mathlib.Core.List.{List, [], _∷_, _++_}
 use mathlib.Core.Option.{Option, none, some}
 use Prim.Native.Nat.{ℕ}
 use lib.ListN.{replicate}
 use Rattle.layout.specs.Layout.{tableLength}
-use Rattle.rules.specs.Calls.{Call, lay, openRead, openWrite, openChange, poll, put, commit, abandon, link, reach}
+use Rattle.rules.specs.Calls.{Call, lay, openRead, openWrite, openChange, poll, put, commit, abandon, link, reach, diagnose}
 use Rattle.rules.specs.Calls.{dataSort, configSort, offState, onState}
 use Rattle.rules.specs.Lists.{replies}
 use Rattle.rules.specs.declared.Reply.{Reply}
@@ -179,6 +179,30 @@ table =
     ∷ row (round (openChange 0 single) (dataPut 2 ∷ configPut 1 ∷ configPut 2 ∷ commit ∷ drops 2 ∷ reach 0 ∷ [])) 0 0 0 0
     -- a write set alone: read 0003, write 0002, and station 1 on the bus
     ∷ house 2 (side 3 0 0 ++ side 2 0 0) (returns 1 ∷ reach 0 ∷ []) 0 0 0 0
+    -- ---- "Why a round will not close"
+    -- poll shows one plus the first read place held: {0, 2} is that of 0005, {1, 2} that of 0006, and all three stations hold that of 0003 first
+    ∷ row (openRead 0 ∷ poll 0 ∷ poll 2 ∷ []) 0 2 0 0
+    ∷ row (openRead 0 ∷ poll 1 ∷ poll 2 ∷ []) 0 3 0 0
+    ∷ row (openRead 0 ∷ poll 1 ∷ poll 2 ∷ poll 0 ∷ []) 0 1 0 0
+    -- diagnose "gets 1 and 5 as commit does": here with no round
+    ∷ row (diagnose ∷ []) 5 0 0 0
+    -- nothing polled: no station, no place. One station polled: it gave the version, in an unheard round too. Unheard comes before short
+    ∷ row (openRead 0 ∷ diagnose ∷ []) 0 8 0 0
+    ∷ row (openRead 0 ∷ poll 2 ∷ diagnose ∷ []) 0 8 3 0
+    ∷ row (openWrite 0 510 ∷ poll 0 ∷ diagnose ∷ []) 0 8 1 0
+    -- the place is that of the newest configuration: 0 and 1 hold a pair, but know the change to 0004
+    ∷ row (changes ++ round (openRead 0) (diagnose ∷ [])) 0 8 1 0
+    -- a heard read can be closed, and the commit right after it is done; a write lacks its puts, then has them, then loses one
+    ∷ row (round (openRead 0) (diagnose ∷ [])) 0 0 1 1
+    ∷ row (round (openRead 0) (diagnose ∷ commit ∷ [])) 0 500 0 0
+    ∷ row (round (openWrite 0 510) (dataPut 0 ∷ diagnose ∷ [])) 0 11 1 1
+    ∷ row (round (openWrite 0 510) (dataPut 0 ∷ dataPut 1 ∷ diagnose ∷ [])) 0 0 1 1
+    ∷ row (round (openWrite 0 510) (dataPut 0 ∷ dataPut 1 ∷ drops 1 ∷ diagnose ∷ [])) 0 11 1 1
+    -- a change lacks its configuration puts, then has them
+    ∷ row (round (openChange 0 single) (dataPut 2 ∷ configPut 0 ∷ diagnose ∷ [])) 0 11 1 1
+    ∷ row (round (openChange 0 single) (dataPut 2 ∷ configPut 0 ∷ configPut 1 ∷ diagnose ∷ [])) 0 0 1 1
+    -- the station that gave the version, and not the one that gave the generation: 510 is at 1 and 2, and of 0 and 2 only 0 knows the change to 0004
+    ∷ row (round (openWrite 0 510) (dataPut 1 ∷ dataPut 2 ∷ commit ∷ changes ++ (openRead 0 ∷ poll 0 ∷ poll 2 ∷ diagnose ∷ []))) 0 0 3 1
     ∷ []
 
 -- ---- the replies

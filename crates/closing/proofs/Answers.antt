@@ -48,7 +48,7 @@ closes t f = heard-reply t (f .isSound) (a-round _ .1 (f .isOpen)) (f .isHeard)
 -- in a heard round, by its kind
 module _ (t : List ℕ) {k : Kind} (e : view t .round .kind ≡ k) where
   by-kind : closingReply t ≡ answer (first (commitTests (view t) k)) (closing (view t) k)
-  unfolding tests figuresOf
+  unfolding figuresOf
   by-kind = rw e
 
   pub spent-reply : spent (view t) k ≡ true → refusal 10 ≡ closingReply t

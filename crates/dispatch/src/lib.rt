@@ -30,17 +30,19 @@ pub const LINK: u8 = 9;
 
 pub const REACH: u8 = 10;
 
+pub const DIAGNOSE: u8 = 11;
+
 // "Any other line .. gets 12".
 pub const FALSE_FRAME: u64 = 12;
 
 // "Lengths in bytes by code, kept as a table"; code 00 has no frame.
-const LENGTHS: [u8; 11] = [0, 43, 2, 10, 34, 2, 3, 1, 1, 3, 2];
+const LENGTHS: [u8; 12] = [0, 43, 2, 10, 34, 2, 3, 1, 1, 3, 2, 1];
 
 // The length of a code's frames; 0 if it has none.
 pub fn frame_length(code: u8) -> usize
     ensures { λ r. ⌜ r ≡ frameLength code ⌝ }
 {
-    if code <= REACH {
+    if code <= DIAGNOSE {
         LENGTHS[code as usize] as usize
     } else {
         0
@@ -108,6 +110,7 @@ pub fn perform(table: &mut [u8], code: u8, arguments: &[u8]) -> Reply
             argument(arguments, 1),
         ),
         REACH => ospreyscreen::ospreyscreen_reach(table, argument(arguments, 0)),
+        DIAGNOSE => ospreyscreen::ospreyscreen_diagnose(table),
         _ => false_frame(),
     }
 }

@@ -8,7 +8,7 @@ use lib.Dec.{ltb, eqb}
 use lib.ListN.{length, getD, drop}
 use Rattle.basics.specs.Bytes.{AreBytes, bytesOf}
 use Rattle.quorum.specs.Configurations.{configSize}
-use Rattle.rules.specs.Calls.{Call, lay, openRead, openWrite, openChange, poll, put, commit, abandon, link, reach}
+use Rattle.rules.specs.Calls.{Call, lay, openRead, openWrite, openChange, poll, put, commit, abandon, link, reach, diagnose}
 use Rattle.rules.specs.Passed.{Word}
 use Rattle.dispatch.specs.Dispatch.{frameLength, callAt}
 use Rattle.frames.specs.Hex.{allDigits, bytesIn}
@@ -42,6 +42,7 @@ frameOf commit = 7 ∷ []
 frameOf abandon = 8 ∷ []
 frameOf (link s state) = 9 ∷ s ∷ state ∷ []
 frameOf (reach i) = 10 ∷ i ∷ []
+frameOf diagnose = 11 ∷ []
 
 -- "one byte each, values 8 bytes, configurations 32"
 abbrev pub IsByte : ℕ → Type 0
@@ -61,3 +62,4 @@ Framable commit = Unit {0}
 Framable abandon = Unit {0}
 Framable (link s state) = IsByte s × IsByte state
 Framable (reach i) = IsByte i
+Framable diagnose = Unit {0}

@@ -3,18 +3,19 @@
 use mathlib.Core.Path.{_≡_, refl, ap}
 use mathlib.Core.Bool.{Bool, true, false, cond}
 use mathlib.Core.List.{[]}
+use mathlib.Core.Logic.{_↔_}
 use mathlib.Core.Option.{Option, none, some}
 use Prim.Native.Nat.{ℕ, zero, suc, _≤_, _<_}
 use native.Mathlib.Nat.{not-suc-le-zero, le-antisymm}
 use native.Mathlib.Omega.{arith}
 use lib.Dec.{ltb}
 use borrow.Author.Tests.{ltb-true, ltb-false}
-use Rattle.quorum.specs.Sets.{member}
-use Rattle.quorum.specs.Configurations.{holdsRead}
+use Rattle.quorum.specs.Sets.{member, within}
+use Rattle.quorum.specs.Configurations.{firstRead, isPlace, holdsRead}
 use Rattle.basics.proofs.Tests.{clash, below-suc, either}
 use Rattle.quorum.proofs.Promise.{promise}
 use Rattle.layout.specs.Fields.{Copy}
-use Rattle.layout.specs.Newest.{newest, newer, IsNewest, NewestExactly, copyOr, byVersion, byGeneration, hears}
+use Rattle.layout.specs.Newest.{newest, newer, IsNewest, NewestExactly, copyOr, versionStation, stationFigure, byVersion, byGeneration, heardPlace, hears}
 
 -- what `newest` gives
 abbrev pub Gives : (ℕ → ℕ) → ℕ → ℕ → Option ℕ → Type 0
@@ -100,6 +101,35 @@ newest-exactly =
         go none f = refl
         go (some b) f = clash (f .inSet) (h b (f .station))
 
+-- ---- the station found, as a figure; in a set of stations below n there is none exactly if the set is empty
+module _ (key : ℕ → ℕ) (set n : ℕ) where
+  pub station-shown : (s : ℕ) → (stationFigure (newest key set n) ≡ suc s) ↔ IsNewest key set n s
+  station-shown s = go (newest key set n) (is-newest key set n)
+    where
+      go : (o : Option ℕ) → Gives key set n o → (stationFigure o ≡ suc s) ↔ IsNewest key set n s
+      go none f = (λ z. absurd (omega (arith, z)), λ h. clash (h .inSet) (f s (h .station)))
+      go (some b) f = (
+        λ z. let q : b ≡ s = omega (arith, z) in rw q at f,
+        λ h. let q = same-newest key set n b s f h in omega (arith, q),
+      )
+
+  pub none-shown : within n set ≡ true → (stationFigure (newest key set n) ≡ 0) ↔ (set ≡ 0)
+  none-shown inside = go (newest key set n) (is-newest key set n)
+    where
+      go : (o : Option ℕ) → Gives key set n o → (stationFigure o ≡ 0) ↔ (set ≡ 0)
+      go none f = (
+        λ z. promise .same-members set 0 (λ i m. clash m (f i (promise .within-member n set i inside m))) (λ i m. clash m (promise .member-empty i)),
+        λ z. refl,
+      )
+      go (some b) f = (λ z. absurd (omega (arith, z)), λ z. clash (rw z at (f .inSet)) (promise .member-empty b))
+
+  pub station-fits : stationFigure (newest key set n) ≤ n
+  station-fits = go (newest key set n) (is-newest key set n)
+    where
+      go : (o : Option ℕ) → Gives key set n o → stationFigure o ≤ n
+      go none f = omega arith
+      go (some b) f = let l = f .station in omega arith
+
 -- ---- the copies that it gives
 module _ (copies : ℕ → Copy) (set n : ℕ) where
   pub by-version : (b : ℕ) → IsNewest (λ s. copies s .version) set n b → byVersion copies set n ≡ copies b
@@ -163,6 +193,9 @@ module _ (cs ds : ℕ → Copy) (set n : ℕ) (e : (s : ℕ) → s < n → cs s 
       go none h = refl
       go (some b) h = e b (h .station)
 
+  pub version-station-same : versionStation cs set n ≡ versionStation ds set n
+  version-station-same = newest-same (λ s. cs s .version) (λ s. ds s .version) set n (λ s l. ap (λ x. x .version) (e s l))
+
   pub by-version-same : byVersion cs set n ≡ byVersion ds set n
   unfolding byVersion
   by-version-same = same-copy (λ x. x .version)
@@ -185,7 +218,12 @@ module _ (cs ds : ℕ → Copy) (set n : ℕ) (e : (s : ℕ) → s < n → (cs s
 
   pub hears-alike : hears cs set n ≡ hears ds set n
   unfolding hears
-  hears-alike = rw config-same
+  hears-alike = ap (λ c. isPlace (firstRead c set)) config-same
 
-pub hears-same : (cs ds : ℕ → Copy) (set n : ℕ) → ((s : ℕ) → s < n → cs s ≡ ds s) → hears cs set n ≡ hears ds set n
-hears-same cs ds set n e = hears-alike cs ds set n (λ s l. (ap (λ c. c .generation) (e s l), ap (λ c. c .config) (e s l)))
+module _ (cs ds : ℕ → Copy) (set n : ℕ) (e : (s : ℕ) → s < n → cs s ≡ ds s) where
+  pub place-same : heardPlace cs set n ≡ heardPlace ds set n
+  place-same = rw (by-generation-same cs ds set n e)
+
+  pub hears-same : hears cs set n ≡ hears ds set n
+  unfolding hears
+  hears-same = ap isPlace place-same

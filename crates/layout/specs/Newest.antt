@@ -5,10 +5,11 @@ use mathlib.Core.Bool.{Bool, true, false, cond}
 use mathlib.Core.Logic.{_↔_}
 use mathlib.Core.List.{[]}
 use mathlib.Core.Option.{Option, none, some}
-use Prim.Native.Nat.{ℕ, zero, suc, _≤_, _<_}
+use Prim.Native.Nat.{ℕ, zero, suc, _+_, _≤_, _<_}
 use lib.Dec.{ltb}
 use Rattle.quorum.specs.Sets.{member}
-use Rattle.quorum.specs.Configurations.{holdsRead}
+use Rattle.quorum.specs.Configurations.{firstRead, isPlace}
+use Rattle.quorum.specs.declared.Place.{Place}
 use Rattle.layout.specs.Fields.{Copy}
 
 -- station k, if its key is greater than that of the newest before it
@@ -41,13 +42,26 @@ abbrev pub copyOr : (ℕ → Copy) → Option ℕ → Copy
 copyOr copies none = noCopy
 copyOr copies (some s) = copies s
 
+-- the station that gives the version, if any
+abbrev pub versionStation : (ℕ → Copy) → ℕ → ℕ → Option ℕ
+versionStation copies set n = newest (λ s. copies s .version) set n
+
+-- a station, or none, as a figure (document 02, 2026-04): "one plus the station that gave the version, or 0"
+abbrev pub stationFigure : Option ℕ → ℕ
+stationFigure none = 0
+stationFigure (some s) = s + 1
+
 unfoldable pub byVersion : (ℕ → Copy) → ℕ → ℕ → Copy
-byVersion copies set n = copyOr copies (newest (λ s. copies s .version) set n)
+byVersion copies set n = copyOr copies (versionStation copies set n)
 
 unfoldable pub byGeneration : (ℕ → Copy) → ℕ → ℕ → Copy
 byGeneration copies set n = copyOr copies (newest (λ s. copies s .generation) set n)
 
--- "The round is heard if the polled set holds every station of some read set of that configuration."
--- In source 000: a read quorum of the configuration with the highest generation that was read has been read.
+-- "The round is heard if the polled set holds every station of some read set of that configuration." And document 02, 2026-04: "The test for heard
+-- shall tell the first read place held". In source 000 (5.4.3): a read quorum of the configuration with the highest generation that was read has been read.
+abbrev pub heardPlace : (ℕ → Copy) → ℕ → ℕ → Place
+heardPlace copies set n = firstRead (byGeneration copies set n .config) set
+
+-- heard: there is such a place (`holdsRead` of that configuration)
 unfoldable pub hears : (ℕ → Copy) → ℕ → ℕ → Bool
-hears copies set n = holdsRead (byGeneration copies set n .config) set
+hears copies set n = isPlace (heardPlace copies set n)

@@ -6,8 +6,9 @@ use Prim.Native.Nat.{ℕ, _<_}
 use lib.ListN.{length}
 use lib.Dec.{eqb}
 use Rattle.quorum.specs.Sets.{full, minus}
+use Rattle.quorum.specs.declared.Place.{Place}
 use Rattle.layout.specs.Layout.{tableLength}
-use Rattle.layout.specs.Newest.{byVersion, byGeneration, hears}
+use Rattle.layout.specs.Newest.{byVersion, byGeneration, heardPlace, hears}
 use Rattle.layout.specs.Fields.{Copy, Round, stations, items, offSet, roundOf, copyOf}
 use Rattle.layout.specs.Soundness.{sound}
 
@@ -59,6 +60,10 @@ foundByVersion v = byVersion (own v) (v .round .polled) (v .n)
 
 abbrev pub foundByGeneration : State → Copy
 foundByGeneration v = byGeneration (own v) (v .round .polled) (v .n)
+
+-- the first read place held, and whether there is one
+abbrev pub readPlace : State → Place
+readPlace v = heardPlace (own v) (v .round .polled) (v .n)
 
 abbrev pub heard : State → Bool
 heard v = hears (own v) (v .round .polled) (v .n)

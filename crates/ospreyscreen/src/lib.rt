@@ -1,10 +1,11 @@
-// The calls as C links them, on any bytes and numbers. Each of the ten calls on a table replies as `reply` says and leaves the table as `after` says;
+// The calls as C links them, on any bytes and numbers. Each call on a table replies as `reply` says and leaves the table as `after` says;
 // every one but lay asks first whether the table is sound. Votes looks at no table.
 ghost use mathlib.Core.Path.{_≡_};
-ghost use Rattle.rules.specs.Calls.{lay, openRead, openWrite, openChange, poll, put, commit, abandon, link, reach};
+ghost use Rattle.rules.specs.Calls.{lay, openRead, openWrite, openChange, poll, put, commit, abandon, link, reach, diagnose};
 ghost use Rattle.rules.specs.Reply.{reply, after};
 ghost use Rattle.votes.specs.Votes.{votesReply, votesOutput};
 use calls::commit_on;
+use calls::diagnose_on;
 use calls::link_on;
 use calls::poll_on;
 use calls::put_on;
@@ -137,6 +138,16 @@ pub extern "C" fn ospreyscreen_reach(table: &[u8], i: u64) -> Reply
         return plain(UNSOUND);
     }
     reach_on(table, i)
+}
+
+#[no_mangle]
+pub extern "C" fn ospreyscreen_diagnose(table: &[u8]) -> Reply
+    ensures { λ r. ⌜ r ≡ reply (now (table .entry)) diagnose ⌝ }
+{
+    if !is_sound(table) {
+        return plain(UNSOUND);
+    }
+    diagnose_on(table)
 }
 
 #[no_mangle]

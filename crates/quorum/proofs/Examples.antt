@@ -8,7 +8,7 @@ use Rattle.basics.specs.Tests.{all, allBelow, anyBelow}
 use Rattle.basics.specs.Bytes.{littleEndian}
 use Rattle.quorum.specs.Sets.{used, holds, shares, within}
 use Rattle.quorum.specs.Configurations.{setAt, readSet, writeSet, usedFirst, someUsed, allWithin, sharesAll, allShare, validity, valid}
-use Rattle.quorum.specs.Configurations.{holdsPlace, holdsRead, holdsWrite, firstPlace, orElse, firstRead, firstWrite}
+use Rattle.quorum.specs.Configurations.{holdsPlace, firstPlace, orElse, firstRead, firstWrite, isPlace, placeFigure, holdsRead, holdsWrite}
 use Rattle.quorum.specs.declared.Place.the-variants.{At, Nowhere}
 
 -- three sets of stations below 8 on a side
@@ -30,9 +30,13 @@ checks =
 
 checked : checks ≡ true ∷ true ∷ false ∷ false ∷ false ∷ false ∷ false ∷ false ∷ true ∷ false ∷ []
 unfolding checks all allBelow anyBelow littleEndian used holds shares within setAt readSet writeSet usedFirst someUsed allWithin
-    sharesAll allShare validity valid holdsPlace holdsRead holdsWrite
+    sharesAll allShare validity valid holdsPlace firstPlace orElse firstRead firstWrite isPlace
 checked = refl
 
 places : firstRead majority 7 ∷ firstRead majority 6 ∷ firstWrite readOne 3 ∷ [] ≡ At 0 ∷ At 2 ∷ Nowhere ∷ []
-unfolding allBelow anyBelow littleEndian used holds setAt readSet writeSet holdsPlace firstPlace orElse firstRead firstWrite
+unfolding littleEndian used holds setAt readSet writeSet holdsPlace firstPlace orElse firstRead firstWrite
 places = refl
+
+figures : placeFigure (firstRead majority 7) ∷ placeFigure (firstRead majority 6) ∷ placeFigure (firstWrite readOne 3) ∷ [] ≡ 1 ∷ 3 ∷ 0 ∷ []
+unfolding placeFigure littleEndian used holds setAt readSet writeSet holdsPlace firstPlace orElse firstRead firstWrite
+figures = refl

@@ -8,47 +8,56 @@ use native.Mathlib.Omega.{arith}
 use lib.ListN.{length}
 use lib.Pow.{pow-pos, pow-mono}
 use borrow.Author.Tests.{ltb-true, lt-ltb, ne-eqb}
-use Rattle.basics.specs.Tests.{anyBelow, Some}
+use Rattle.basics.specs.Tests.{Some}
 use Rattle.quorum.specs.Sets.{member, used, within, unite, remove, full}
-use Rattle.quorum.specs.Configurations.{setAt, readSet, writeSet, valid, holdsPlace, holdsRead, holdsWrite, firstPlace, firstRead, firstWrite, configSize}
+use Rattle.quorum.specs.Configurations.{setAt, readSet, writeSet, valid, holdsPlace, firstPlace}
+use Rattle.quorum.specs.Configurations.{firstRead, firstWrite, isPlace, holdsRead, holdsWrite, configSize}
 use Rattle.quorum.specs.Promise.{Promise, _⊆_, LiesIn, FirstIn, Side}
 use Rattle.quorum.specs.declared.Place.the-variants.{At}
-use Rattle.basics.proofs.Tests.{clash, fails, same-test, any-below, below-any}
+use Rattle.basics.proofs.Tests.{clash, fails, same-test, either}
 use Rattle.quorum.proofs.Members.{member-empty, member-join, member-or, member-minus, member-remove, member-full, same-members}
 use Rattle.quorum.proofs.Members.{holds-member, member-holds, shares-members, used-member, within-members, within-join, within-unite, within-minus}
 use Rattle.quorum.proofs.Members.{lowest-member, below-lowest, remove-less, without-lowest}
 use Rattle.quorum.proofs.Validity.{valid-facts, facts-valid, first-used, place-lies, lies-place}
 use Rattle.quorum.proofs.Validity.{first-start, first-on, first-hit, first-found, first-nowhere}
+use Rattle.quorum.proofs.Validity.{some-place, no-place, a-place, figure-at, figure-nowhere}
 
--- ---- a side of a configuration
+-- ---- a side of a configuration: the first place whose set lies within, and whether there is one
 module _ (side : ℕ → ℕ) (set : ℕ) where
   abbrev any : Bool
-  any = anyBelow (holdsPlace side set) 8
+  any = isPlace (firstPlace (holdsPlace side set) 8)
+
+  first-in : (k : ℕ) → (firstPlace (holdsPlace side set) 8 ≡ At k) ↔ FirstIn side set k
+  first-in k = (
+    λ e. let f = first-found (holdsPlace side set) 8 k .0 e in
+        (f .0, place-lies side set k (f .1), λ j l h. clash (lies-place side set j h) (f .2 j l)),
+    λ f. first-found (holdsPlace side set) 8 k .1 (f .0, lies-place side set k (f .1), λ j l. fails _ (λ e. f .2 j l (place-lies side set j e))),
+  )
 
   held : (any ≡ true) ↔ Some 8 (LiesIn side set)
   held = (
-    λ e. let s = any-below (holdsPlace side set) 8 e in (s .0, s .1, place-lies side set (s .0) (s .2)),
-    λ s. below-any (holdsPlace side set) 8 (s .0) (s .1) (lies-place side set (s .0) (s .2)),
+    λ e. let s = a-place _ e in let f = first-in (s .0) .0 (s .1) in (s .0, f .0, f .1),
+    λ s. either any (λ e. e) (λ e. clash (lies-place side set (s .0) (s .2)) (first-nowhere _ 8 .0 (no-place _ .1 e) (s .0) (s .1))),
   )
 
-more : (side : ℕ → ℕ) (a b : ℕ) → a ⊆ b → anyBelow (holdsPlace side a) 8 ≡ true → anyBelow (holdsPlace side b) 8 ≡ true
+more : (side : ℕ → ℕ) (a b : ℕ) → a ⊆ b → any side a ≡ true → any side b ≡ true
 more side a b s e =
     let h = held side a .0 e in held side b .1 (h .0, h .1, (h .2 .0, λ i m. s i (h .2 .1 i m)))
 
 -- a used set has a member, and the empty set has none
-none : (side : ℕ → ℕ) → anyBelow (holdsPlace side 0) 8 ≡ false
+none : (side : ℕ → ℕ) → any side 0 ≡ false
 none side =
     fails _ (λ e. let h = held side 0 .0 e in let m = used-member (side (h .0)) .0 (h .2 .0) in clash (h .2 .1 (m .0) (m .1)) (member-empty (m .0)))
 
 -- all of the n stations hold the first set of a valid side
-whole : (n : ℕ) (side : ℕ → ℕ) → n ≤ 16 → Side n side → anyBelow (holdsPlace side (full n)) 8 ≡ true
+whole : (n : ℕ) (side : ℕ → ℕ) → n ≤ 16 → Side n side → any side (full n) ≡ true
 unfolding within
 whole n side l s =
     held side (full n) .1 (0, omega arith, (first-used n side s, λ i m. member-full n i l ∙ lt-ltb i n (s .inRange 0 (omega arith) i m)))
 
 meeting : (n : ℕ) (c : List ℕ) (r w : ℕ) → valid n c ≡ true → holdsRead c r ≡ true → holdsWrite c w ≡ true
     → Some n (λ i. (member r i ≡ true) × (member w i ≡ true))
-unfolding holdsRead holdsWrite within
+unfolding firstRead firstWrite within
 meeting n c r w v hr hw =
     let f = valid-facts n c v in
     let x = held (readSet c) r .0 hr in
@@ -60,7 +69,7 @@ meeting n c r w v hr hw =
     )
 
 -- a list of another length has no sets
-short : (side : ℕ → ℕ) (set : ℕ) → ((k : ℕ) → side k ≡ 0) → anyBelow (holdsPlace side set) 8 ≡ false
+short : (side : ℕ → ℕ) (set : ℕ) → ((k : ℕ) → side k ≡ 0) → any side set ≡ false
 unfolding used
 short side set h = fails _ (λ e. let s = held side set .0 e in clash (s .2 .0) (rw (h (s .0))))
 
@@ -68,17 +77,8 @@ no-set : (c : List ℕ) (place : ℕ) → (length c ≡ configSize → ⊥) → 
 unfolding setAt
 no-set c place h = rw (ne-eqb _ _ h)
 
--- the first place whose set lies within
-module _ (side : ℕ → ℕ) (set : ℕ) where
-  first-in : (k : ℕ) → (firstPlace (holdsPlace side set) 8 ≡ At k) ↔ FirstIn side set k
-  first-in k = (
-    λ e. let f = first-found (holdsPlace side set) 8 k .0 e in
-        (f .0, place-lies side set k (f .1), λ j l h. clash (lies-place side set j h) (f .2 j l)),
-    λ f. first-found (holdsPlace side set) 8 k .1 (f .0, lies-place side set k (f .1), λ j l. fails _ (λ e. f .2 j l (place-lies side set j e))),
-  )
-
 pub promise : Promise
-unfolding readSet writeSet holdsRead holdsWrite firstRead firstWrite within unite remove full
+unfolding readSet writeSet firstRead firstWrite within unite remove full
 promise =
     record {
       quorums-meet = meeting;
@@ -92,11 +92,14 @@ promise =
       all-write = λ n c v. let f = valid-facts n c v in whole n (writeSet c) (f .small) (f .writes);
       first-read = λ c. first-in (readSet c);
       first-write = λ c. first-in (writeSet c);
-      no-first-read = λ c set. first-nowhere (holdsPlace (readSet c) set) 8;
-      no-first-write = λ c set. first-nowhere (holdsPlace (writeSet c) set) 8;
+      no-first-read = λ c set. no-place (firstRead c set);
+      no-first-write = λ c set. no-place (firstWrite c set);
       first-start = first-start;
       first-on = first-on;
       first-hit = first-hit;
+      some-place = some-place;
+      figure-at = figure-at;
+      figure-nowhere = figure-nowhere;
       valid-exactly = λ n c. (valid-facts n c, facts-valid n c);
       valid-stations = λ n c v. let f = valid-facts n c v in (f .positive, f .small);
       first-used = first-used;

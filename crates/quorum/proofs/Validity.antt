@@ -1,6 +1,6 @@
 -- A valid configuration, as facts about its places, and the places of a side that a set holds.
-use mathlib.Core.Path.{_≡_, refl}
-use mathlib.Core.Bool.{Bool, true, false, not, cond, _||_}
+use mathlib.Core.Path.{_≡_, refl, ap}
+use mathlib.Core.Bool.{Bool, true, false, not, cond, _||_, true≢false, false≢true}
 use mathlib.Core.List.{List}
 use mathlib.Core.Logic.{_↔_, _⊎_, inl, inr, ⊎-elim}
 use Prim.Native.Nat.{ℕ, zero, suc, _+_, _<_}
@@ -13,10 +13,11 @@ use borrow.Author.Tests.{leb-true, le-leb, eqb-true, eqb-false, eq-eqb, not-true
 use Rattle.basics.specs.Tests.{anyBelow}
 use Rattle.quorum.specs.Sets.{used}
 use Rattle.quorum.specs.Configurations.{readSet, writeSet, usedFirst, someUsed, allWithin, sharesAll, allShare, validity, valid, configSize}
-use Rattle.quorum.specs.Configurations.{holdsPlace, firstPlace, orElse}
+use Rattle.quorum.specs.Configurations.{holdsPlace, firstPlace, orElse, placeFigure, isPlace}
 use Rattle.quorum.specs.Promise.{LiesIn, Side, Valid}
+use Rattle.quorum.specs.declared.Place.{Place}
 use Rattle.quorum.specs.declared.Place.the-variants.{At, Nowhere}
-use Rattle.basics.proofs.Tests.{clash, by-cases, and-left, and-right, and-both, implies, implied, or-cases, either}
+use Rattle.basics.proofs.Tests.{clash, and-left, and-right, and-both, implies, implied, or-cases, either, same-test}
 use Rattle.basics.proofs.Tests.{all-true, true-all, all-below, below-all, any-below, below-any, below-suc}
 use Rattle.quorum.proofs.Members.{holds-member, member-holds, shares-members, within-members}
 
@@ -169,9 +170,34 @@ first-found p n k = (
   λ f. first-hit p n k (f .0) (⊎-elim (λ h. h .0) (λ r. clash (r .2 .1) (f .2 (r .0) (r .2 .0))) (scan p k)) (f .1),
 )
 
-pub first-nowhere : (p : ℕ → Bool) (n : ℕ) → (firstPlace p n ≡ Nowhere) ↔ (anyBelow p n ≡ false)
+pub first-nowhere : (p : ℕ → Bool) (n : ℕ) → (firstPlace p n ≡ Nowhere) ↔ None p n
 first-nowhere p n = (
-  λ e. by-cases (λ (b : Bool). b ≡ false) (anyBelow p n) (λ t. let s = any-below p n t in
-      ⊎-elim (λ h. clash (s .2) (h .1 (s .0) (s .1))) (λ r. let z : _≡_ {A = ℕ} 0 1 = cc (r .1) in absurd (omega arith)) (scan p n)) (λ f. refl),
-  λ e. ⊎-elim (λ h. h .0) (λ r. clash (below-any p n (r .0) (r .2 .0) (r .2 .1)) e) (scan p n),
+  λ e. ⊎-elim (λ h. h .1) (λ r. let z : _≡_ {A = ℕ} 0 1 = cc (r .1) in absurd (omega arith)) (scan p n),
+  λ e. ⊎-elim (λ h. h .0) (λ r. clash (r .2 .1) (e (r .0) (r .2 .0))) (scan p n),
 )
+
+-- ---- whether there is a place, and its figure
+pub no-place : (place : Place) → (place ≡ Nowhere) ↔ (isPlace place ≡ false)
+unfolding isPlace
+no-place (At k) = (λ e. let z : _≡_ {A = ℕ} 0 1 = cc e in absurd (omega arith), λ e. absurd (true≢false e))
+no-place Nowhere = (λ _. refl, λ _. refl)
+
+pub a-place : (place : Place) → isPlace place ≡ true → (k : ℕ) × (place ≡ At k)
+unfolding isPlace
+a-place (At k) e = (k, refl)
+a-place Nowhere e = absurd (false≢true e)
+
+pub some-place : (p : ℕ → Bool) (n : ℕ) → isPlace (firstPlace p n) ≡ anyBelow p n
+some-place p n =
+    same-test _ _ (λ e. let s = a-place _ e in let f = first-found p n (s .0) .0 (s .1) in below-any p n (s .0) (f .0) (f .1))
+    (λ e. let s = any-below p n e in either (isPlace (firstPlace p n)) (λ t. t) (λ t. clash (s .2) (first-nowhere p n .0 (no-place _ .1 t) (s .0) (s .1))))
+
+pub figure-at : (place : Place) (k : ℕ) → (placeFigure place ≡ suc k) ↔ (place ≡ At k)
+unfolding placeFigure
+figure-at (At j) k = (λ e. let q : j ≡ k = omega (arith, e) in ap At q, λ e. let q : j ≡ k = cc e in omega (arith, q))
+figure-at Nowhere k = (λ e. absurd (omega (arith, e)), λ e. let z : _≡_ {A = ℕ} 0 1 = cc e in absurd (omega arith))
+
+pub figure-nowhere : (place : Place) → (placeFigure place ≡ 0) ↔ (place ≡ Nowhere)
+unfolding placeFigure
+figure-nowhere (At j) = (λ e. absurd (omega (arith, e)), λ e. let z : _≡_ {A = ℕ} 0 1 = cc e in absurd (omega arith))
+figure-nowhere Nowhere = (λ _. refl, λ _. refl)

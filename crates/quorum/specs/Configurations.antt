@@ -1,5 +1,5 @@
 -- Configurations (document 01, "Stations, sets, configurations"; source 000, section 3).
-use mathlib.Core.Bool.{Bool, not, cond, _&&_, _||_}
+use mathlib.Core.Bool.{Bool, true, false, not, cond, _&&_, _||_}
 use mathlib.Core.List.{List, [], _∷_}
 use Prim.Native.Nat.{ℕ, zero, suc, _+_, _*_}
 use lib.ListN.{length}
@@ -68,26 +68,36 @@ valid n c = all (validity n c)
 unfoldable pub holdsPlace : (ℕ → ℕ) → ℕ → ℕ → Bool
 holdsPlace side set k = used (side k) && holds set (side k)
 
--- the set holds every station of some read set, of some write set
-unfoldable pub holdsRead : List ℕ → ℕ → Bool
-holdsRead c set = anyBelow (holdsPlace (readSet c) set) 8
-
-unfoldable pub holdsWrite : List ℕ → ℕ → Bool
-holdsWrite c set = anyBelow (holdsPlace (writeSet c) set) 8
-
--- ---- the first place held, for a caller that is told which one it is; "heard" needs only whether there is one
--- the first of two answers that is a place
+-- ---- the first place held (document 02, 2026-04: "The test for heard shall tell the first read place held")
+-- the first of two answers that is a place, if one is
 unfoldable pub orElse : Place → Place → Place
 orElse (At k) other = At k
 orElse Nowhere other = other
 
--- the first place below a bound of which p holds
+-- the first place below a bound of which p holds, if there is one
 unfoldable pub firstPlace : (ℕ → Bool) → ℕ → Place
 firstPlace p zero = Nowhere
 firstPlace p (suc k) = orElse (firstPlace p k) (cond (p k) (At k) Nowhere)
 
+-- the first read place, the first write place whose set the given set holds
 unfoldable pub firstRead : List ℕ → ℕ → Place
 firstRead c set = firstPlace (holdsPlace (readSet c) set) 8
 
 unfoldable pub firstWrite : List ℕ → ℕ → Place
 firstWrite c set = firstPlace (holdsPlace (writeSet c) set) 8
+
+-- the answer as a figure: "one plus that place, or 0"
+unfoldable pub placeFigure : Place → ℕ
+placeFigure (At k) = k + 1
+placeFigure Nowhere = 0
+
+unfoldable pub isPlace : Place → Bool
+isPlace (At k) = true
+isPlace Nowhere = false
+
+-- the set holds every station of some read set, of some write set: there is a place
+abbrev pub holdsRead : List ℕ → ℕ → Bool
+holdsRead c set = isPlace (firstRead c set)
+
+abbrev pub holdsWrite : List ℕ → ℕ → Bool
+holdsWrite c set = isPlace (firstWrite c set)

@@ -9,9 +9,11 @@ use Prim.Native.Nat.{ℕ, suc, _+_, _-_, _≤_, _<_}
 use lib.Dec.{ltb, eqb}
 use lib.ListN.{length}
 use lib.Bits.{bitAnd}
-use Rattle.basics.specs.Tests.{Some}
+use Rattle.basics.specs.Tests.{anyBelow, Some}
 use Rattle.quorum.specs.Sets.{member, used, holds, shares, within, join, unite, minus, remove, lowest, full}
-use Rattle.quorum.specs.Configurations.{configSize, readSet, writeSet, valid, holdsRead, holdsWrite, firstPlace, firstRead, firstWrite}
+use Rattle.quorum.specs.Configurations.{configSize, readSet, writeSet, valid, firstPlace}
+use Rattle.quorum.specs.Configurations.{firstRead, firstWrite, placeFigure, isPlace, holdsRead, holdsWrite}
+use Rattle.quorum.specs.declared.Place.{Place}
 use Rattle.quorum.specs.declared.Place.the-variants.{At, Nowhere}
 
 infix 50 _⊆_
@@ -19,11 +21,11 @@ infix 50 _⊆_
 abbrev pub _⊆_ : ℕ → ℕ → Type 0
 a ⊆ b = (i : ℕ) → member a i ≡ true → member b i ≡ true
 
--- a place of a side is used, and its set lies within the given one: source 000's 𝓡 ∈ c.read and 𝓡 ⊆ read
+-- a place of a side is used, and its set lies within the given one: source 000's 𝓡 ∈ config.read and 𝓡 ⊆ read (5.4.3)
 abbrev pub LiesIn : (ℕ → ℕ) → ℕ → ℕ → Type 0
 LiesIn side set k = (used (side k) ≡ true) × (side k ⊆ set)
 
--- k is the first place of a side whose set lies within the given one
+-- k is the first place of a side that is used and whose set lies within the given one
 abbrev pub FirstIn : (ℕ → ℕ) → ℕ → ℕ → Type 0
 FirstIn side set k = (k < 8) × LiesIn side set k × ((j : ℕ) → j < k → LiesIn side set j → ⊥)
 
@@ -65,10 +67,15 @@ pub record Promise : Type 0 where
   pub first-write : (c : List ℕ) (set k : ℕ) → (firstWrite c set ≡ At k) ↔ FirstIn (writeSet c) set k
   pub no-first-read : (c : List ℕ) (set : ℕ) → (firstRead c set ≡ Nowhere) ↔ (holdsRead c set ≡ false)
   pub no-first-write : (c : List ℕ) (set : ℕ) → (firstWrite c set ≡ Nowhere) ↔ (holdsWrite c set ≡ false)
-  -- a search that counts up: at its start, where it goes on, and where it finds
+  -- for code that counts up: at its start, where it goes on, and where it finds
   pub first-start : (p : ℕ → Bool) → firstPlace p 0 ≡ Nowhere
   pub first-on : (p : ℕ → Bool) (k : ℕ) → firstPlace p k ≡ Nowhere → p k ≡ false → firstPlace p (k + 1) ≡ Nowhere
   pub first-hit : (p : ℕ → Bool) (n k : ℕ) → k < n → firstPlace p k ≡ Nowhere → p k ≡ true → firstPlace p n ≡ At k
+  -- there is a place exactly if the test holds of some number below the bound
+  pub some-place : (p : ℕ → Bool) (n : ℕ) → isPlace (firstPlace p n) ≡ anyBelow p n
+  -- the figure tells the answer
+  pub figure-at : (place : Place) (k : ℕ) → (placeFigure place ≡ suc k) ↔ (place ≡ At k)
+  pub figure-nowhere : (place : Place) → (placeFigure place ≡ 0) ↔ (place ≡ Nowhere)
   -- ---- validity
   pub valid-exactly : (n : ℕ) (c : List ℕ) → (valid n c ≡ true) ↔ Valid n c
   pub valid-stations : (n : ℕ) (c : List ℕ) → valid n c ≡ true → (1 ≤ n) × (n ≤ 16)

@@ -1,23 +1,13 @@
--- What the code's enum `Hearing` says of the copies of an item at n stations, and of the stations polled.
+-- What the code's struct `Found` holds for the copies of an item at n stations and a polled set: the station that gives the version, the one that gives
+-- generation and configuration, and the first read place held (document 02, 2026-04).
 use mathlib.Core.Path.{_≡_}
-use mathlib.Core.Bool.{true, false}
 use mathlib.Core.List.{List}
-use Prim.Native.Nat.{ℕ, _+_, _≤_}
-use lib.ListN.{length}
-use Rattle.layout.specs.Layout.{copySize}
-use Rattle.layout.specs.Fields.{copyFrom}
-use Rattle.layout.specs.Newest.{byVersion, byGeneration, hears}
-use Rattle.table.specs.Search.{copiesOf}
-use Rattle.rounds.specs.declared.heard.Hearing.{Hearing}
-use Rattle.rounds.specs.declared.heard.Hearing.the-variants.{Copies, Unheard}
+use Prim.Native.Nat.{ℕ}
+use Rattle.layout.specs.Newest.{newest, versionStation, heardPlace}
+use Rattle.table.specs.Search.{asOption, copiesOf, generationsOf}
+use Rattle.rounds.specs.declared.heard.Found.{Found}
 
--- the newest copies start at b, by version, and at g, by generation
-pub record FoundAt (t : List ℕ) (n item polled b g : ℕ) : Type 0 where
-  pub version : byVersion (copiesOf t n item) polled n ≡ copyFrom t b
-  pub generation : byGeneration (copiesOf t n item) polled n ≡ copyFrom t g
-  pub version-fits : b + copySize ≤ length t
-  pub generation-fits : g + copySize ≤ length t
-
-abbrev pub Says : List ℕ → ℕ → ℕ → ℕ → Hearing → Type 0
-Says t n item polled (Copies b g) = (hears (copiesOf t n item) polled n ≡ true) × FoundAt t n item polled b g
-Says t n item polled Unheard = hears (copiesOf t n item) polled n ≡ false
+pub record IsFound (t : List ℕ) (n item polled : ℕ) (f : Found) : Type 0 where
+  pub version : asOption (f .«by_version») ≡ versionStation (copiesOf t n item) polled n
+  pub generation : asOption (f .«by_generation») ≡ newest (generationsOf t n item) polled n
+  pub place : f .place ≡ heardPlace (copiesOf t n item) polled n

@@ -1,3 +1,3 @@
-// The open round as a value, and whether a round is heard.
+// The open round as a value, and what a round has found.
 pub mod heard;
 pub mod round;

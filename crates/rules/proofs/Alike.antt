@@ -10,15 +10,15 @@ use borrow.Author.Tests.{ne-eqb}
 use Rattle.basics.specs.Bytes.{AreBytes}
 use Rattle.basics.proofs.Tests.{clash}
 use Rattle.quorum.specs.Sets.{member, join, remove}
-use Rattle.quorum.specs.Configurations.{valid}
+use Rattle.quorum.specs.Configurations.{placeFigure, valid}
 use Rattle.layout.specs.Fields.{Kind, none, read, write, change}
 use Rattle.layout.specs.Rounds.{withPoll, withPut, withLink}
-use Rattle.layout.specs.Newest.{hears}
-use Rattle.layout.specs.View.{Table, State, view, own, foundByVersion, foundByGeneration, heard, onBus, SameContents}
+use Rattle.layout.specs.Newest.{versionStation, stationFigure, heardPlace}
+use Rattle.layout.specs.View.{Table, State, view, own, foundByVersion, foundByGeneration, readPlace, heard, onBus, SameContents}
 use Rattle.layout.proofs.Soundness.{is-sound}
-use Rattle.layout.proofs.Newer.{by-version-same, by-generation-same, hears-same}
+use Rattle.layout.proofs.Newer.{version-station-same, by-version-same, by-generation-same, place-same, hears-same}
 use Rattle.layout.proofs.Stored.{stored}
-use Rattle.rules.specs.Calls.{Call, lay, openRead, openWrite, openChange, poll, put, commit, abandon, link, reach, isLay, isData, isOff}
+use Rattle.rules.specs.Calls.{Call, lay, openRead, openWrite, openChange, poll, put, commit, abandon, link, reach, diagnose, isLay, isData, isOff}
 use Rattle.rules.specs.Passed.{Passable}
 use Rattle.rules.specs.Rules.{tests, numberOf, first, idle, noSize, noSort, noLink, wrongPut, spent, spentAtPut, written}
 use Rattle.rules.specs.Figures.{Figures, figuresOf, closing, oneFigure}
@@ -56,8 +56,14 @@ module _ (v w : State) (a : Alike v w) (listed : v .isSound ≡ true → v .roun
     heard-same : heard v ≡ heard w
     heard-same = hears-same (own v) (own w) (v .round .polled) (v .n) own-same ∙ rw (same .n, same .round)
 
-    polled-same : (u : ℕ) → hears (own v) (withPoll (v .round) u .polled) (v .n) ≡ hears (own w) (withPoll (w .round) u .polled) (w .n)
-    polled-same u = hears-same (own v) (own w) (withPoll (v .round) u .polled) (v .n) own-same ∙ rw (same .n, same .round)
+    read-place-same : readPlace v ≡ readPlace w
+    read-place-same = place-same (own v) (own w) (v .round .polled) (v .n) own-same ∙ rw (same .n, same .round)
+
+    polled-same : (u : ℕ) → heardPlace (own v) (withPoll (v .round) u .polled) (v .n) ≡ heardPlace (own w) (withPoll (w .round) u .polled) (w .n)
+    polled-same u = place-same (own v) (own w) (withPoll (v .round) u .polled) (v .n) own-same ∙ rw (same .n, same .round)
+
+    station-same : versionStation (own v) (v .round .polled) (v .n) ≡ versionStation (own w) (w .round .polled) (w .n)
+    station-same = version-station-same (own v) (own w) (v .round .polled) (v .n) own-same ∙ rw (same .n, same .round)
 
     spent-same : (k : Kind) → spent v k ≡ spent w k
     spent-same none = refl
@@ -86,6 +92,14 @@ module _ (v w : State) (a : Alike v w) (listed : v .isSound ≡ true → v .roun
     -- by the kind of the round that is open
     of-kind : {A : Type 0} (f g : Kind → A) → ((k : Kind) → f k ≡ g k) → f (v .round .kind) ≡ g (w .round .kind)
     of-kind f g e = e (v .round .kind) ∙ ap (λ r. g (r .kind)) (same .round)
+
+    -- a commit's tests
+    commit-same : tests v commit ≡ tests w commit
+    unfolding tests
+    commit-same = λ j. (idle (same .round j .kind), 5) ∷ (not (heard-same j), 8) ∷ (of-kind _ _ spent-same j, 10) ∷ (not (of-kind _ _ written-same j), 11) ∷ []
+
+    commit-number-same : numberOf v commit ≡ numberOf w commit
+    commit-number-same = sound-number v commit refl s ∙ ap first commit-same ∙ sym (sound-number w commit refl (sym (a .isSound) ∙ s))
 
   -- ---- call by call: the same tests; where the call is allowed, the same figures, and states after it that are alike
   pub record AlikeLaw (c : Call) : Type 0 where
@@ -128,7 +142,7 @@ module _ (v w : State) (a : Alike v w) (listed : v .isSound ≡ true → v .roun
       record {
         tested = λ _ j. (not (ltb s (same .n j)), 2) ∷ (idle (same .round j .kind), 5) ∷ (member (same .off j) s, 6)
             ∷ (not (eqb (same .round j .dataPuts) 0 && eqb (same .round j .configPuts) 0), 7) ∷ [];
-        figures = λ h j. oneFigure (cond (polled-same (h .0) s j) 1 0);
+        figures = λ h j. oneFigure (placeFigure (polled-same (h .0) s j));
         states = λ _. record { n = same .n; m = same .m; off = same .off; round = ap (λ r. withPoll r s) (same .round); copies = same .copies };
       }
   alike-law (put s sort) =
@@ -140,8 +154,7 @@ module _ (v w : State) (a : Alike v w) (listed : v .isSound ≡ true → v .roun
       }
   alike-law commit =
       record {
-        tested = not-lay (λ e j. (idle (same .round j .kind), 5) ∷ (not (heard-same e j), 8) ∷ (of-kind e _ _ (spent-same e) j, 10)
-            ∷ (not (of-kind e _ _ (written-same e) j), 11) ∷ []);
+        tested = not-lay commit-same;
         figures = λ h. of-kind (h .0) _ _ (closing-same (h .0));
         states = λ h. record {
           n = same .n;
@@ -177,6 +190,16 @@ module _ (v w : State) (a : Alike v w) (listed : v .isSound ≡ true → v .roun
         figures = λ h. let e : (s : ℕ) → s < v .n → v .copies i s ≡ w .copies i s = λ s l. same .copies i s (rw (same .m) at (h .1 .0)) (rw (same .n) at l) in
             let on = onBus v in
             rw (hears-same (v .copies i) (w .copies i) on (v .n) e, by-generation-same (v .copies i) (w .copies i) on (v .n) e) (rw (same .n, same .off) refl);
+        states = λ _. record { n = same .n; m = same .m; off = same .off; round = same .round; copies = same .copies };
+      }
+  alike-law diagnose =
+      record {
+        tested = λ _ j. (idle (same .round j .kind), 5) ∷ [];
+        figures = λ h j. record {
+          first = commit-number-same (h .0) j;
+          second = stationFigure (station-same (h .0) j);
+          third = placeFigure (read-place-same (h .0) j);
+        };
         states = λ _. record { n = same .n; m = same .m; off = same .off; round = same .round; copies = same .copies };
       }
 

@@ -10,8 +10,9 @@ use borrow.Author.Tests.{eq-eqb, lt-ltb, ltb-true, not-true}
 use Rattle.basics.specs.Bytes.{AreBytes}
 use Rattle.basics.proofs.Tests.{or-left, or-right, and-left, and-right, and-both}
 use Rattle.quorum.specs.Sets.{member, join}
+use Rattle.quorum.specs.Configurations.{placeFigure}
 use Rattle.layout.specs.Fields.{Kind, none, read, write, change, Round}
-use Rattle.layout.specs.Newest.{hears}
+use Rattle.layout.specs.Newest.{heardPlace}
 use Rattle.layout.specs.Rounds.{withPolled, withPuts, withPoll, withPut}
 use Rattle.layout.specs.View.{Table, State, view, heard, SameContents, onBus}
 use Rattle.layout.proofs.Held.{withRound}
@@ -113,7 +114,7 @@ module _ (v : State) (isSound : v .isSound ≡ true) (few : v .n ≤ 16) where
     unfolding needs
     polled-done s on d c = let x = on-bus v few s .0 on in is-done w (poll s) (isSound, (x .0, (busy, (x .1, ((d, c), tt)))))
 
-    polled-says : (s : ℕ) → numberOf w (poll s) ≡ 0 → replyOf w (poll s) .first ≡ cond (hears (v .copies (r .item)) (join (r .polled) s) (v .n)) 1 0
+    polled-says : (s : ℕ) → numberOf w (poll s) ≡ 0 → replyOf w (poll s) .first ≡ placeFigure (heardPlace (v .copies (r .item)) (join (r .polled) s) (v .n))
     unfolding replyOf figuresOf
     polled-says s e = rw e
 
@@ -132,12 +133,12 @@ module _ (v : State) (isSound : v .isSound ≡ true) (few : v .n ≤ 16) where
   -- ---- polls of stations on the bus, one after the other
   pub record AllPolled (r : Round) (u : Table) (order : List ℕ) (x : ℕ) : Type 0 where
     pub done : AllDone (replies u (polls order))
-    pub says : lastFigure x (replies u (polls order)) ≡ cond (hears (v .copies (r .item)) (joined (r .polled) order) (v .n)) 1 0
+    pub says : lastFigure x (replies u (polls order)) ≡ placeFigure (heardPlace (v .copies (r .item)) (joined (r .polled) order) (v .n))
     pub asking : Asking v (withPolled r (joined (r .polled) order)) (afterAll u (polls order))
 
   pub all-polled : (order : List ℕ) → ThoseOn v order → (r : Round) (u : Table) → Asking v r u
       → r .item < v .m → (r .kind ≡ none → ⊥) → r .dataPuts ≡ 0 → r .configPuts ≡ 0
-      → (x : ℕ) → x ≡ cond (hears (v .copies (r .item)) (r .polled) (v .n)) 1 0 → AllPolled r u order x
+      → (x : ℕ) → x ≡ placeFigure (heardPlace (v .copies (r .item)) (r .polled) (v .n)) → AllPolled r u order x
   unfolding replies afterAll
   all-polled [] on r u a item busy d c x e = record { done = tt; says = e; asking = a }
   all-polled (s ∷ order) on r u a item busy d c x e =

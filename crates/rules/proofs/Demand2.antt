@@ -11,7 +11,7 @@ use Rattle.layout.specs.View.{State, view}
 use Rattle.rules.specs.Calls.{commit}
 use Rattle.rules.specs.Rules.{numberOf, spent}
 use Rattle.rules.specs.Reply.{replyOf}
-use Rattle.rules.specs.Demand2.{Found, Heard, Spent, Written, Demand2}
+use Rattle.rules.specs.Demand2.{Found, Heard, Spent, Written, Commits, Demand2}
 use Rattle.rules.specs.Needs.{Gets, HeardRound, needs}
 use Rattle.rules.proofs.Quorums.{is-spent, is-written}
 use Rattle.rules.proofs.Judged.{number-gets, allowed, is-done}
@@ -100,17 +100,14 @@ module _ (v : State) (isSound : v .isSound ≡ true) (isOpen : v .round .kind �
       go (inr (q, inr (r, inl p))) = inr (inr (inr (p .1)))
       go (inr (q, inr (r, inr p))) = inl (p .1)
 
+  pub commits : Commits v k number
+  commits = record { finished = finished; unheard = unheard; spent = is-ten; short = short; noOther = no-other }
+
 pub demand2 : Demand2
 unfolding replyOf view needs
 demand2 =
     record {
-      open-round = λ t s o. record {
-        finished = finished (view t) s o;
-        unheard = unheard (view t) s o;
-        spent = is-ten (view t) s o;
-        short = short (view t) s o;
-        noOther = no-other (view t) s o;
-      };
+      open-round = λ t. commits (view t);
       no-round = λ t s e. number-gets (view t) commit 5 .1 (inr (s, inl (λ o. o e, refl)));
       unsound = λ t s. number-gets (view t) commit 1 .1 (inl (λ e. clash e s, refl));
     }

@@ -1,26 +1,22 @@
 -- The demands hold of the definitions, and what else is stated of them: each theorem is of the statement in the file of specs/ that
 -- bears its name.
-use mathlib.Core.Path.{_≡_, refl}
-use mathlib.Core.Bool.{Bool, cond}
-use Prim.Native.Nat.{ℕ}
-use lib.Dec.{eqb}
-use Rattle.basics.proofs.Tests.{by-cases}
-use Rattle.layout.specs.View.{Table, view}
+use mathlib.Core.Path.{refl}
 use Rattle.rules.specs.Calls.{reach}
-use Rattle.rules.specs.Rules.{numberOf}
 use Rattle.rules.specs.After.{done}
-use Rattle.rules.specs.Reply.{after}
 use Rattle.rules.specs.Demand1.{Demand1}
 use Rattle.rules.specs.Steps.{Steps}
 use Rattle.rules.proofs.Demand1.{refusal-changes-nothing, refusal-has-no-figures, other-calls-have-no-figures, number-is-listed}
 use Rattle.rules.proofs.Room.{figures-fit}
 use Rattle.rules.proofs.Laws.{done-step, length-kept, bytes-kept}
+use Rattle.rules.proofs.Twice.{settled}
+use Rattle.rules.proofs.DiagnoseExact.{diagnose-nothing}
 pub use Rattle.rules.proofs.Judged.{numbered}
 pub use Rattle.rules.proofs.Demand2.{demand2}
 pub use Rattle.rules.proofs.Demand3.{demand3}
 pub use Rattle.rules.proofs.Kept.{sound-kept}
 pub use Rattle.rules.proofs.OffAtFirst.{off-at-first}
 pub use Rattle.rules.proofs.ReachExact.{reach-exact}
+pub use Rattle.rules.proofs.DiagnoseExact.{diagnose-exact}
 pub use Rattle.rules.proofs.Twice.{twice, lay-alone}
 pub use Rattle.rules.proofs.Alike.{alike-tables}
 
@@ -36,13 +32,11 @@ demand1 =
       bytes-kept = bytes-kept;
     }
 
-reach-nothing : (t : Table) (i : ℕ) → after t (reach i) ≡ t
-unfolding after done
-reach-nothing t i = by-cases (λ (b : Bool). cond b t t ≡ t) (eqb (numberOf (view t) (reach i)) 0) (λ _. refl) (λ _. refl)
-
 pub steps : Steps
+unfolding done
 steps =
     record {
       step = λ t c b p e. done-step t c e b p;
-      reach-changes-nothing = reach-nothing;
+      reach-changes-nothing = λ t i. settled t (reach i) refl;
+      diagnose-changes-nothing = diagnose-nothing;
     }

@@ -13,11 +13,11 @@ use Rattle.layout.specs.Layout.{listed}
 use Rattle.layout.proofs.Sizes.{sized}
 use Rattle.layout.specs.Fields.{Kind, none, read, write, change}
 use Rattle.layout.specs.View.{State, view}
-use Rattle.rules.specs.Calls.{Call, lay, openRead, openWrite, openChange, poll, put, commit, abandon, link, reach, isLay, isConfigSort}
+use Rattle.rules.specs.Calls.{Call, lay, openRead, openWrite, openChange, poll, put, commit, abandon, link, reach, diagnose, isLay, isConfigSort}
 use Rattle.rules.specs.Rules.{first, tests, refusals, numberOf, idle, wrongPut, spentAtPut}
 use Rattle.rules.specs.Figures.{figuresOf, noFigures}
 use Rattle.rules.specs.Reply.{replyOf}
-use Rattle.rules.specs.Demand1.{HasFigures, of-poll, of-commit, of-reach}
+use Rattle.rules.specs.Demand1.{HasFigures, of-poll, of-commit, of-reach, of-diagnose}
 use Rattle.rules.specs.Demand2.{Found}
 use Rattle.rules.specs.Needs.{Gets, numbers, Rise, RightPut, SpentAtPut, needs, Allowed, Numbers}
 use Rattle.rules.proofs.Chains.{Decides, Listed, first-fails, first-applies, exactly, gets-zero, gets-fails, gets-lowest}
@@ -240,6 +240,14 @@ module _ (v : State) where
         listed = (omega arith, omega arith, (omega arith, omega arith, tt));
         rising = λ l. (omega arith, (omega arith, tt));
         figures = inl of-reach;
+        lay? = inr refl;
+      }
+  judged diagnose =
+      record {
+        decided = (refl, isSound, λ _. (refl, a-round kind, λ _. tt));
+        listed = (omega arith, omega arith, (omega arith, omega arith, tt));
+        rising = λ l. (omega arith, (omega arith, tt));
+        figures = inl of-diagnose;
         lay? = inr refl;
       }
 

@@ -20,4 +20,5 @@ pub mod OutOfReach
 pub mod ReachExact
 pub mod Twice
 pub mod Room
+pub mod DiagnoseExact
 pub mod Demands

@@ -10,10 +10,10 @@ use borrow.Author.Tests.{eqb-true, eq-eqb}
 use Rattle.basics.specs.Bytes.{AreBytes}
 use Rattle.basics.proofs.Tests.{clash, and-left, and-right, and-both, or-left, or-right}
 use Rattle.quorum.specs.Sets.{member, join}
-use Rattle.quorum.specs.Configurations.{writeSet, holdsWrite}
+use Rattle.quorum.specs.Configurations.{writeSet, placeFigure, holdsWrite}
 use Rattle.quorum.proofs.Promise.{promise}
 use Rattle.layout.specs.Fields.{Copy, Kind, none, read, write, change, Round}
-use Rattle.layout.specs.Newest.{IsNewest, byVersion, byGeneration, hears}
+use Rattle.layout.specs.Newest.{IsNewest, byVersion, byGeneration, heardPlace, hears}
 use Rattle.layout.specs.Rounds.{withPolled, withPuts}
 use Rattle.layout.specs.View.{Table, State, view, SameContents, onBus}
 use Rattle.layout.specs.Updates.{noTarget}
@@ -34,7 +34,8 @@ use Rattle.rules.specs.ReachExact.{among, AllOn, polls, puts, Opens, of-
 use Rattle.rules.specs.ReachExact.{Readable, AllDone, lastFigure, PollsSay, Closes, SpentOn}
 use Rattle.rules.proofs.Judged.{numbered, a-round}
 use Rattle.rules.proofs.Demand1.{Shows, reply-figures}
-use Rattle.rules.proofs.Steps.{one, three}
+use Rattle.rules.proofs.Steps.{three}
+use Rattle.rules.proofs.Quorums.{no-place-figure, a-place-figure, place-shown}
 use Rattle.rules.proofs.Laws.{done-allowed, next-view, length-kept, bytes-kept}
 use Rattle.rules.proofs.Kept.{after-sound}
 use Rattle.rules.proofs.Asking.{on-bus, joined, all-data, all-config, Asking, same-reply, commit-number, all-polled, AllPut, all-put}
@@ -93,11 +94,7 @@ write-told false w e = clash e refl
 via : {A B C : Type 0} → A ↔ B → C ↔ B → A ↔ C
 via p q = (λ a. q .1 (p .0 a), λ c. p .1 (q .0 c))
 
--- the last poll's figure, and a commit's number
-polls-told : (h : Bool) → ((one h ≡ 1) ↔ (h ≡ true)) × ((one h ≡ 0) ↔ (h ≡ false))
-polls-told true = ((λ e. refl, λ e. refl), (λ e. absurd (omega arith), λ e. clash refl e))
-polls-told false = ((λ e. absurd (omega arith), λ e. clash e refl), (λ e. refl, λ e. refl))
-
+-- a commit's number
 closes-told : {S N : Type 0} (h w s p : Bool) → (h ≡ true → (s ≡ true) ↔ S) → (h ≡ true → s ≡ false → (p ≡ true) ↔ N)
     → Closes (three h w) (cond (not h) 8 (cond s 10 (cond (not p) 11 0))) S N
 closes-told false w s p spends writes =
@@ -180,23 +177,25 @@ module _ (t : Table) (bytes : AreBytes t) (isSound : view t .isSound ≡ true) (
 
     pub record Polled (order : List ℕ) : Type 0 where
       pub done : AllDone (replies u (polls order))
-      pub says : lastFigure 0 (replies u (polls order)) ≡ one (allHeard v i)
+      pub says : lastFigure 0 (replies u (polls order)) ≡ placeFigure (heardPlace (v .copies i) on (v .n))
       pub asking : Asking v (asked 0 0) (afterAll u (polls order))
 
     pub polled : (order : List ℕ) → AllOn v order → Polled order
     unfolding hears
     polled order all =
         let p = all-polled v isSound few order (λ s m. sym (all s) ∙ m) (opened k i x target) u a item busy refl refl 0
-        (rw (promise .none-read (byGeneration (v .copies i) 0 (v .n) .config)) refl) in
+        (sym (no-place-figure (byGeneration (v .copies i) 0 (v .n) .config) 0 .1 (promise .none-read _))) in
         let e = all-joined v few order all in
         record { done = p .done; says = rw e at (p .says); asking = rw e at (p .asking) }
 
-    polls-say : (order : List ℕ) → AllOn v order → PollsSay (reply t (reach i) .first) (replies u (polls order))
+    polls-say : (order : List ℕ) → AllOn v order → PollsSay v i (reply t (reach i) .first) (replies u (polls order))
+    unfolding hears
     polls-say order all =
         let p = polled order all in
-        let heard = via (polls-told (allHeard v i) .0) (reads-told (allHeard v i) (canWrite v i)) in
-        let unheard = via (polls-told (allHeard v i) .1) (zero-told (allHeard v i) (canWrite v i)) in
-        rw reach-figure (record { done = p .done; heard = rw (p .says) heard; unheard = rw (p .says) unheard })
+        let config = byGeneration (v .copies i) on (v .n) .config in
+        let heard = via (a-place-figure config on) (reads-told (allHeard v i) (canWrite v i)) in
+        let unheard = via (no-place-figure config on) (zero-told (allHeard v i) (canWrite v i)) in
+        rw reach-figure (record { done = p .done; place = rw (p .says) (place-shown v i on); heard = rw (p .says) heard; unheard = rw (p .says) unheard })
 
     -- puts at them all
     put-all : (sort : ℕ) → (sort ≡ dataSort) ⊎ (sort ≡ configSort) → wrongPut k sort ≡ false → (places : List ℕ) → AllOn v places
@@ -335,7 +334,7 @@ module _ (t : Table) (bytes : AreBytes t) where
           (change-closes t bytes (a .0) i (a .1 .0) order all places everywhere others elsewhere (after t c) target asks-change)
 
     pub exact-hears : (c : Call) → Passable c → Opens c i → reply t c .number ≡ 0
-        → PollsSay (reply t (reach i) .first) (replies (after t c) (polls order))
+        → PollsSay (view t) i (reply t (reach i) .first) (replies (after t c) (polls order))
     unfolding needs
     exact-hears c p of-read e =
         let a = done-allowed t c e in

@@ -18,7 +18,7 @@ use Rattle.layout.specs.Updates.{noTarget}
 use Rattle.layout.proofs.Fields.{opened}
 use Rattle.layout.proofs.Held.{withRound}
 use Rattle.layout.proofs.Soundness.{StateSound, is-sound}
-use Rattle.rules.specs.Calls.{Call, lay, openRead, openWrite, openChange, poll, put, commit, abandon, link, reach}
+use Rattle.rules.specs.Calls.{Call, lay, openRead, openWrite, openChange, poll, put, commit, abandon, link, reach, diagnose}
 use Rattle.rules.specs.Reply.{reply, after}
 use Rattle.rules.specs.Lists.{AllPassable}
 use Rattle.rules.specs.Needs.{needs, Allowed}
@@ -115,6 +115,7 @@ module _ (i : ℕ) where
     kept abandon a fewer = opened-kept none 0 0 noTarget
     kept (link s state) a fewer = with-round (next w (link s state)) fewer refl refl refl (h .polled)
     kept (reach j) a fewer = h
+    kept diagnose a fewer = h
 
   -- ---- a list of calls
   pub stays : (calls : List Call) (u : Table) → AreBytes u → view u .isSound ≡ true → Silent (view u) → AllPassable calls → StaysUnheard i u calls

@@ -2,17 +2,22 @@
 use mathlib.Core.Path.{_≡_, refl, ap}
 use mathlib.Core.Bool.{Bool, true, false, not, _&&_}
 use mathlib.Core.Logic.{_↔_}
-use Prim.Native.Nat.{ℕ, _-_, _^_}
+use mathlib.Core.List.{List}
+use Prim.Native.Nat.{ℕ, zero, suc, _-_, _^_, _≤_}
+use native.Mathlib.Omega.{arith}
 use borrow.Author.Tests.{eqb-true, eq-eqb, not-false}
-use Rattle.basics.proofs.Tests.{clash, fails, and-left, and-right, and-both}
+use Rattle.basics.proofs.Tests.{clash, either, fails, and-left, and-right, and-both}
+use Rattle.quorum.specs.Configurations.{firstRead, placeFigure, holdsRead}
+use Rattle.quorum.specs.declared.Place.the-variants.{At}
 use Rattle.quorum.proofs.Promise.{promise}
 use Rattle.layout.specs.Fields.{Kind, none, read, write, change}
-use Rattle.layout.specs.Newest.{hears}
+use Rattle.layout.specs.Newest.{byGeneration, heardPlace, hears}
 use Rattle.layout.specs.View.{State, own, foundByVersion, foundByGeneration, heard}
 use Rattle.layout.proofs.Newer.{by-version, by-generation, heard-finds}
 use Rattle.rules.specs.Rules.{spent, written}
 use Rattle.rules.specs.Demand2.{Found, Heard, HeardBy, Spent, Written}
 use Rattle.rules.specs.Needs.{HeardRound}
+use Rattle.rules.specs.Steps.{PlaceShown}
 
 -- ---- tests that decide a condition
 pub negated : (b : Bool) {A : Type 0} → (b ≡ true) ↔ A → (b ≡ false) ↔ (A → ⊥)
@@ -23,6 +28,34 @@ passes b p = (λ e. p .0 (not-false b e), λ a. ap not (p .1 a))
 
 both : (a b : Bool) {A B : Type 0} → (a ≡ true) ↔ A → (b ≡ true) ↔ B → ((a && b) ≡ true) ↔ (A × B)
 both a b p q = (λ e. (p .0 (and-left a b e), q .0 (and-right a b e)), λ h. and-both a b (p .1 (h .0)) (q .1 (h .1)))
+
+-- ---- the figure of the first read place: 0 exactly if no read set is held
+module _ (c : List ℕ) (set : ℕ) where
+  pub no-place-figure : (placeFigure (firstRead c set) ≡ 0) ↔ (holdsRead c set ≡ false)
+  no-place-figure = (
+    λ e. promise .no-first-read c set .0 (promise .figure-nowhere (firstRead c set) .0 e),
+    λ e. promise .figure-nowhere (firstRead c set) .1 (promise .no-first-read c set .1 e),
+  )
+
+  pub a-place-figure : (1 ≤ placeFigure (firstRead c set)) ↔ (holdsRead c set ≡ true)
+  a-place-figure = (
+    λ l. either (holdsRead c set) (λ e. e) (λ e. let z = no-place-figure .1 e in absurd (omega arith)),
+    λ e. go (placeFigure (firstRead c set)) refl e,
+  )
+    where
+      go : (x : ℕ) → placeFigure (firstRead c set) ≡ x → holdsRead c set ≡ true → 1 ≤ x
+      go zero z e = clash e (no-place-figure .0 z)
+      go (suc x) z e = omega arith
+
+  pub place-fits : placeFigure (firstRead c set) ≤ 8
+  place-fits = go (placeFigure (firstRead c set)) refl
+    where
+      go : (x : ℕ) → placeFigure (firstRead c set) ≡ x → x ≤ 8
+      go zero e = omega arith
+      go (suc k) e = let f = promise .first-read c set k .0 (promise .figure-at (firstRead c set) k .0 e) .0 in omega arith
+
+  some-place : {k : ℕ} → firstRead c set ≡ At k → holdsRead c set ≡ true
+  some-place {k} e = a-place-figure .0 (rw (promise .figure-at (firstRead c set) k .1 e) (omega arith))
 
 module _ (v : State) where
   -- a round that is heard has found something
@@ -67,6 +100,29 @@ module _ (v : State) where
         (f .g, (f .newestGeneration, promise .holds-read (v .copies i (f .g) .config) set .0 (rw (f .generation) at e))),
     λ h. rw (by-generation (v .copies i) set (v .n) (h .0) (h .1 .0)) (promise .holds-read (v .copies i (h .0) .config) set .1 (h .1 .1)),
   )
+
+  -- the read place that is shown
+  module _ (i set : ℕ) where
+    abbrev config : List ℕ
+    config = byGeneration (v .copies i) set (v .n) .config
+
+    pub place-shown : PlaceShown v i set (placeFigure (heardPlace (v .copies i) set (v .n)))
+    unfolding hears
+    place-shown =
+        record {
+          held = λ k. (
+            λ e. let at-k = promise .figure-at (firstRead config set) k .0 e in
+                let f = heard-finds (v .copies i) set (v .n) (some-place config set at-k) in
+                (f .g, f .newestGeneration, rw (config, f .generation) at (promise .first-read config set k .0 at-k)),
+            λ h. promise .figure-at (firstRead config set) k .1
+                (rw (config, by-generation (v .copies i) set (v .n) (h .0) (h .1)) (promise .first-read (v .copies i (h .0) .config) set k .1 (h .2))),
+          );
+          heard = (λ l. heard-by i set .0 (a-place-figure config set .0 l), λ h. a-place-figure config set .1 (heard-by i set .1 h));
+          unheard = (
+            λ e g h. clash (heard-by i set .1 (g, h)) (no-place-figure config set .0 e),
+            λ n. no-place-figure config set .1 (fails _ (λ e. let h = heard-by i set .0 e in n (h .0) (h .1))),
+          );
+        }
 
   -- a test by what a heard round has found: what it finds is one
   module _ (h : HeardRound v) (b : Bool) (C : Found v → Type 0) (e : (f : Found v) → (b ≡ true) ↔ C f) where

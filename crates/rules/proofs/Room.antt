@@ -8,37 +8,44 @@ use Rattle.basics.specs.Bytes.{AreBytes}
 use Rattle.quorum.specs.Configurations.{holdsWrite}
 use Rattle.layout.specs.Rounds.{withPoll}
 use Rattle.layout.specs.Newest.{byGeneration, hears}
-use Rattle.layout.specs.View.{Table, view, own, onBus}
-use Rattle.rules.specs.Calls.{Call}
+use Rattle.layout.specs.View.{Table, view, own, foundByGeneration, onBus}
+use Rattle.layout.proofs.Newer.{station-fits}
+use Rattle.layout.proofs.Soundness.{is-sound}
+use Rattle.rules.specs.Calls.{Call, commit}
 use Rattle.rules.specs.Figures.{figuresOf, noFigures}
-use Rattle.rules.specs.Reply.{reply}
+use Rattle.rules.specs.Reply.{replyOf, reply}
 use Rattle.rules.specs.Passed.{Word}
-use Rattle.rules.specs.Needs.{Allowed}
-use Rattle.rules.specs.Demand1.{HasFigures, of-poll, of-commit, of-reach}
+use Rattle.rules.specs.Needs.{Allowed, needs}
+use Rattle.rules.specs.Demand1.{HasFigures, of-poll, of-commit, of-reach, of-diagnose}
 use Rattle.rules.proofs.Judged.{judged}
 use Rattle.rules.proofs.Views.{Fit, closing-fits}
 use Rattle.rules.proofs.Laws.{commit-heard, commit-unspent, done-allowed}
-use Rattle.rules.proofs.Demand1.{refusal-has-no-figures, reply-figures}
+use Rattle.rules.proofs.Demand1.{refusal-has-no-figures, reply-figures, number-is-listed}
+use Rattle.rules.proofs.Quorums.{place-fits}
 
 at-most-3 : (a b : Bool) → cond a (cond b 3 1) 0 < 2 ^ 64
 at-most-3 true true = omega arith
 at-most-3 true false = omega arith
 at-most-3 false b = omega arith
 
-at-most-1 : (a : Bool) → cond a 1 0 < 2 ^ 64
-at-most-1 true = omega arith
-at-most-1 false = omega arith
-
 module _ (t : Table) (b : AreBytes t) where
   figured-fits : {c : Call} → HasFigures c → Allowed (view t) c → Fit (figuresOf (view t) c)
-  unfolding figuresOf
+  unfolding figuresOf needs replyOf
   figured-fits (of-poll {s}) a =
-      (at-most-1 (hears (own (view t)) (withPoll (view t .round) s .polled) (view t .n)), omega arith, omega arith)
+      let place = place-fits (byGeneration (own (view t)) (withPoll (view t .round) s .polled) (view t .n) .config) (withPoll (view t .round) s .polled) in
+      (omega arith, omega arith, omega arith)
   figured-fits of-commit a = closing-fits t b (view t .round .kind) (commit-heard t a) (commit-unspent t a)
   figured-fits (of-reach {i}) a =
       let on = onBus (view t) in
       let found = byGeneration (view t .copies i) on (view t .n) in
       (at-most-3 (hears (view t .copies i) on (view t .n)) (holdsWrite (found .config) on), omega arith, omega arith)
+  figured-fits of-diagnose a =
+      let v = view t in
+      let number = number-is-listed t commit in
+      let station = station-fits (λ s. own v s .version) (v .round .polled) (v .n) in
+      let few = is-sound t (a .0) .small in
+      let place = place-fits (foundByGeneration v .config) (v .round .polled) in
+      (omega arith, omega arith, omega arith)
 
   done-fits : (c : Call) → Allowed (view t) c → Fit (figuresOf (view t) c)
   done-fits c a = go (judged (view t) c .figures)

@@ -9,26 +9,28 @@ use lib.Dec.{ltb}
 use borrow.Author.Tests.{eq-eqb, ne-eqb}
 use Rattle.basics.proofs.Tests.{clash}
 use Rattle.quorum.specs.Sets.{member, join, remove, full}
-use Rattle.quorum.specs.Configurations.{writeSet, holdsWrite}
+use Rattle.quorum.specs.Configurations.{writeSet, placeFigure, holdsWrite}
 use Rattle.quorum.proofs.Promise.{promise}
 use Rattle.layout.specs.Fields.{Kind, none, read, write, change, Round}
 use Rattle.layout.specs.Newest.{byGeneration, hears}
 use Rattle.layout.specs.Rounds.{withPolled, withPuts}
-use Rattle.layout.specs.View.{State, onBus, own, heard, SameContents}
+use Rattle.layout.specs.View.{State, onBus, own, readPlace, SameContents}
 use Rattle.layout.specs.Updates.{noTarget}
 use Rattle.layout.proofs.Fields.{opened}
 use Rattle.layout.proofs.Soundness.{StateSound}
 use Rattle.layout.proofs.Held.{withOff, withRound}
-use Rattle.layout.proofs.Newer.{by-generation, hears-same}
+use Rattle.layout.proofs.Newer.{station-shown, none-shown, by-generation, place-same}
 use Rattle.layout.proofs.Stored.{stored}
-use Rattle.rules.specs.Calls.{lay, poll, put, commit, link, reach}
+use Rattle.rules.specs.Calls.{lay, poll, put, commit, link, reach, diagnose}
 use Rattle.rules.specs.Figures.{figuresOf, closing}
 use Rattle.rules.specs.After.{stores}
 use Rattle.rules.specs.Demand2.{QuorumIn, Found, HeardBy}
-use Rattle.rules.specs.Steps.{Joined, Removed, SameCopies, SameOrder, Fresh, Laid, Opened, Polled, Put, Linked, Closing, Committed, Reached}
+use Rattle.rules.specs.Steps.{Joined, Removed, SameCopies, SameOrder, Fresh, Laid, Opened}
+use Rattle.rules.specs.Steps.{OwnPlaceShown, Polled, Put, Linked, Closing, Committed, Reached, Diagnosed}
 use Rattle.rules.specs.declared.Reply.{Reply}
 use Rattle.rules.proofs.Demand1.{Shows}
-use Rattle.rules.proofs.Quorums.{version-found, generation-found, heard-exactly, heard-by}
+use Rattle.rules.proofs.Quorums.{version-found, generation-found, place-shown, heard-by}
+use Rattle.rules.proofs.Demand2.{commits}
 use Rattle.rules.proofs.States.{next}
 
 -- ---- what stays, and what is fresh
@@ -65,16 +67,8 @@ removed : (a s b : ℕ) → b ≡ remove a s → Removed a s b
 removed a s b e i = ap (λ x. member x i) e ∙ promise .member-remove a i s
 
 -- ---- figures that tests give
-abbrev pub one : Bool → ℕ
-one b = cond b 1 0
-
 abbrev pub three : Bool → Bool → ℕ
 three a b = cond a (cond b 3 1) 0
-
-module _ {A : Type 0} where
-  one-told : (b : Bool) → (b ≡ true) ↔ A → ((one b ≡ 1) ↔ A) × ((one b ≡ 0) ↔ (A → ⊥))
-  one-told true p = ((λ e. p .0 refl, λ a. refl), (λ e. absurd (omega arith), λ h. absurd (h (p .0 refl))))
-  one-told false p = ((λ e. absurd (omega arith), λ a. clash (p .1 a) refl), (λ e a. clash (p .1 a) refl, λ h. refl))
 
 module _ (H W : ℕ → Type 0) where
   three-told : (a b : Bool) → (a ≡ true) ↔ ((g : ℕ) × H g) → ((g : ℕ) → H g → (b ≡ true) ↔ W g)
@@ -103,16 +97,16 @@ three-only false b = inl refl
 -- ---- poll
 -- the figure is by the state after it
 module _ (v w : State) (s : ℕ) (l : SameContents w (next v (poll s))) (f : StateSound v) where
-  heard-after : heard w ≡ heard (next v (poll s))
-  heard-after =
-      rw (l .n, l .round) (hears-same (w .copies (v .round .item)) (own v) (join (v .round .polled) s) (v .n)
+  pub place-after : readPlace w ≡ readPlace (next v (poll s))
+  place-after =
+      rw (l .n, l .round) (place-same (w .copies (v .round .item)) (own v) (join (v .round .polled) s) (v .n)
       (λ u h. l .copies (v .round .item) u (f .item) h))
 
   pub polled-step : (r : Reply) → s < v .n → Shows r (figuresOf v (poll s)) → Polled v w s r
   unfolding figuresOf
   polled-step r h q =
       let k = f .small in
-      let x = one-told (heard (next v (poll s))) (rw heard-after at (heard-exactly w)) in
+      let shown : OwnPlaceShown w (placeFigure (readPlace (next v (poll s)))) = rw (← place-after) (place-shown w (w .round .item) (w .round .polled)) in
       record {
         copies = same-copies v w (v .off) _ l;
         order = same-order v w _ _ _ (l .round);
@@ -120,8 +114,7 @@ module _ (v w : State) (s : ℕ) (l : SameContents w (next v (poll s))) (f : Sta
         polled = joined (v .round .polled) s (w .round .polled) (omega arith) (ap (λ r. r .polled) (l .round));
         dataPuts = ap (λ r. r .dataPuts) (l .round);
         configPuts = ap (λ r. r .configPuts) (l .round);
-        heard = (λ e. x .0 .0 (sym (q .0) ∙ e), λ a. q .0 ∙ x .0 .1 a);
-        unheard = (λ e g a. x .1 .0 (sym (q .0) ∙ e) (g, a), λ n. q .0 ∙ x .1 .1 (λ a. n (a .0) (a .1)));
+        place = rw (q .0) shown;
         noOther = (q .1, q .2);
       }
 
@@ -158,7 +151,7 @@ module _ (v w : State) (s : ℕ) (small : s < 16) where
 
 -- ---- commit
 module _ (v : State) (f : Found v) (r : Reply) where
-  closing-step : (k : Kind) → (k ≡ none → ⊥) → Shows r (closing v k) → Closing v f k r
+  pub closing-step : (k : Kind) → (k ≡ none → ⊥) → Shows r (closing v k) → Closing v f k r
   closing-step none busy q = absurd (busy refl)
   closing-step read busy q = rw (version-found v f, generation-found v f) at q
   closing-step write busy q = rw (version-found v f, generation-found v f) at q
@@ -213,6 +206,18 @@ module _ (v : State) (i : ℕ) (f : StateSound v) where
         writes = rw (q .0) (z .1);
         noOther = (rw (q .0) (three-only (hears (v .copies i) on (v .n)) (holdsWrite (byGeneration (v .copies i) on (v .n) .config) on)), q .1, q .2);
       }
+
+-- ---- diagnose
+pub diagnose-step : (v : State) → StateSound v → v .isSound ≡ true → (v .round .kind ≡ none → ⊥) → (r : Reply) → Shows r (figuresOf v diagnose)
+    → Diagnosed v r
+unfolding figuresOf
+diagnose-step v f sound busy r q =
+    record {
+      commits = rw (q .0) (commits v sound busy);
+      station = λ s. rw (q .1) (station-shown (λ k. own v k .version) (v .round .polled) (v .n) s);
+      noStation = rw (q .1) (none-shown (λ k. own v k .version) (v .round .polled) (v .n) (f .polled));
+      place = rw (q .2) (place-shown v (v .round .item) (v .round .polled));
+    }
 
 -- ---- lay
 pub laid-step : (v w : State) (n m value : ℕ) (config : List ℕ) → n ≤ 16 → SameContents w (next v (lay n m value config)) → Laid w n m value config

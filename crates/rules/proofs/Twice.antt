@@ -43,7 +43,7 @@ join-again a s l =
     (λ i m. promise .member-join (join a s) i s l ∙ or-left (member (join a s) i) (eqb i s) m)
 
 -- a call on a table that it leaves as it is, should it be done
-settled : (u : List ℕ) (c : Call) → done u (view u) c ≡ u → after u c ≡ u
+pub settled : (u : List ℕ) (c : Call) → done u (view u) c ≡ u → after u c ≡ u
 settled u c e = by-number (λ (w : List ℕ). w ≡ u) u c (λ _. e) refl
 
 -- ---- poll

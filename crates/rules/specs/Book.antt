@@ -4,7 +4,7 @@ use mathlib.Core.Path.{_≡_}
 use mathlib.Core.List.{List, [], _∷_}
 use Prim.Native.Nat.{ℕ, zero, suc, _+_}
 use lib.ListN.{getD, set, replicate}
-use Rattle.rules.specs.Calls.{Call, lay, openRead, openWrite, openChange, poll, put, commit, abandon, link, reach}
+use Rattle.rules.specs.Calls.{Call, lay, openRead, openWrite, openChange, poll, put, commit, abandon, link, reach, diagnose}
 use Rattle.rules.specs.declared.Reply.{Reply}
 
 -- "It keeps, for each of 32 items, a value, a count of writes and a count of changes." The 32 stands in the step of a lay.
@@ -40,7 +40,7 @@ finish items (write i value) = set items i (record { value = value; writes = ent
 finish items (change i) =
     set items i (record { value = entry items i .value; writes = entry items i .writes; changes = entry items i .changes + 1 })
 
--- the steps "for number 0"
+-- the steps "for number 0"; of a call that a request adds, it "leaves the book as it was unless a step is given there" (document 01)
 abbrev pub step : Book → Call → Book
 step b (lay n m value config) = record { items = replicate 32 (started value); noted = none }
 step b (openRead i) = record { items = b .items; noted = read i }
@@ -52,6 +52,7 @@ step b commit = record { items = finish (b .items) (b .noted); noted = none }
 step b abandon = record { items = b .items; noted = none }
 step b (link s state) = b
 step b (reach i) = b
+step b diagnose = b
 
 -- "Any call whose number is not 0: the book stays as it was."
 unfoldable pub fed : Book → Call → ℕ → Book

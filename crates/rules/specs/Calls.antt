@@ -1,4 +1,4 @@
--- The ten calls with their arguments: numbers of any size, configurations as lists of any length (document 01, "The calls").
+-- The calls with their arguments: numbers of any size, configurations as lists of any length (document 01, "The calls"; diagnose is document 02's, 2026-04).
 -- What a caller can pass is in Passed.antt.
 use mathlib.Core.Bool.{Bool, true, false}
 use mathlib.Core.List.{List}
@@ -17,6 +17,7 @@ pub data Call : Type 0 where
   abandon : Call
   link : (station state : ℕ) → Call
   reach : (item : ℕ) → Call
+  diagnose : Call
 
 -- what is said of a lay by its arguments, and of every other call alike
 abbrev pub layOr : {A : Type 0} → (ℕ → ℕ → ℕ → List ℕ → A) → A → Call → A
@@ -30,6 +31,7 @@ layOr f a commit = a
 layOr f a abandon = a
 layOr f a (link s state) = a
 layOr f a (reach i) = a
+layOr f a diagnose = a
 
 abbrev pub isLay : Call → Bool
 isLay = layOr (λ n m value config. true) false

@@ -1,6 +1,6 @@
 -- Demand 1: every call, on any bytes and numbers, ends, touches only what is lent, and refuses by document 01's number; a refusal changes no
 -- byte and has zero figures. Here, of the definitions and for every call on any list of numbers, what a refusal leaves; that calls other than
--- poll, commit and reach have zero figures always; that the number is one of document 01's (which one is in Needs.antt); that on bytes the figures
+-- poll, commit, reach and diagnose have zero figures always; that the number is one of document 01's (which one is in Needs.antt); that on bytes the figures
 -- have 64 bits; that the table keeps its length, and stays bytes. That there is one reply and one table is said by `reply` and `after` being
 -- functions; that the code ends, equals them and touches nothing but what it is lent is in its contracts.
 use mathlib.Core.Path.{_≡_}
@@ -8,7 +8,7 @@ use Prim.Native.Nat.{ℕ, _≤_}
 use lib.ListN.{length}
 use Rattle.basics.specs.Bytes.{AreBytes}
 use Rattle.layout.specs.View.{Table}
-use Rattle.rules.specs.Calls.{Call, poll, commit, reach}
+use Rattle.rules.specs.Calls.{Call, poll, commit, reach, diagnose}
 use Rattle.rules.specs.Passed.{Passable, Word}
 use Rattle.rules.specs.Reply.{reply, after}
 use Rattle.rules.specs.declared.Reply.{Reply}
@@ -16,11 +16,12 @@ use Rattle.rules.specs.declared.Reply.{Reply}
 abbrev pub ZeroFigures : Reply → Type 0
 ZeroFigures r = (r .first ≡ 0) × (r .second ≡ 0) × (r .third ≡ 0)
 
--- the three calls with figures
+-- the four calls with figures
 pub data HasFigures : Call → Type 0 where
   of-poll : {s : ℕ} → HasFigures (poll s)
   of-commit : HasFigures commit
   of-reach : {i : ℕ} → HasFigures (reach i)
+  of-diagnose : HasFigures diagnose
 
 pub record Demand1 : Type 0 where
   pub refusal-changes-nothing : (t : Table) (c : Call) → (reply t c .number ≡ 0 → ⊥) → after t c ≡ t

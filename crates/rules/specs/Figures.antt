@@ -1,12 +1,13 @@
--- The figures of each call that is done (document 01, "The calls").
+-- The figures of each call that is done (document 01, "The calls", and document 02, 2026-03 and 2026-04).
 use mathlib.Core.Bool.{cond}
 use Prim.Native.Nat.{ℕ, _+_}
-use Rattle.quorum.specs.Configurations.{holdsWrite}
+use Rattle.quorum.specs.Configurations.{placeFigure, holdsWrite}
 use Rattle.layout.specs.Rounds.{withPoll}
 use Rattle.layout.specs.Fields.{Copy, Kind, none, read, write, change}
-use Rattle.layout.specs.Newest.{byGeneration, hears}
-use Rattle.layout.specs.View.{State, onBus, own, foundByVersion, foundByGeneration}
-use Rattle.rules.specs.Calls.{Call, lay, openRead, openWrite, openChange, poll, put, commit, abandon, link, reach}
+use Rattle.layout.specs.Newest.{versionStation, stationFigure, byGeneration, heardPlace, hears}
+use Rattle.layout.specs.View.{State, onBus, own, foundByVersion, foundByGeneration, readPlace}
+use Rattle.rules.specs.Calls.{Call, lay, openRead, openWrite, openChange, poll, put, commit, abandon, link, reach, diagnose}
+use Rattle.rules.specs.Rules.{numberOf}
 
 pub record Figures : Type 0 where
   pub first : ℕ
@@ -36,15 +37,27 @@ reachOf copies on n = cond (hears copies on n) (cond (holdsWrite (byGeneration c
 abbrev pub reachFigure : State → ℕ → ℕ
 reachFigure v i = reachOf (v .copies i) (onBus v) (v .n)
 
--- "Poll's first figure is 1 if the round is now heard. .. Reach has its figure first. All other figures are zero."
+-- Document 02, 2026-04: "gives on an open round: the number commit would give now; one plus the station that gave the version, or 0; one plus the
+-- read place, or 0". The station is the one whose copy gives the version, heard or not.
+abbrev pub diagnosis : State → Figures
+diagnosis v =
+    record {
+      first = numberOf v commit;
+      second = stationFigure (versionStation (own v) (v .round .polled) (v .n));
+      third = placeFigure (readPlace v);
+    }
+
+-- Document 02, 2026-04: "poll's first figure becomes one plus that place, or 0", the first read place held with this station
+-- polled too. Document 01: "Reach has its figure first. All other figures are zero."
 unfoldable pub figuresOf : State → Call → Figures
 figuresOf v (lay n m value config) = noFigures
 figuresOf v (openRead i) = noFigures
 figuresOf v (openWrite i value) = noFigures
 figuresOf v (openChange i target) = noFigures
-figuresOf v (poll s) = oneFigure (cond (hears (own v) (withPoll (v .round) s .polled) (v .n)) 1 0)
+figuresOf v (poll s) = oneFigure (placeFigure (heardPlace (own v) (withPoll (v .round) s .polled) (v .n)))
 figuresOf v (put s sort) = noFigures
 figuresOf v commit = closing v (v .round .kind)
 figuresOf v abandon = noFigures
 figuresOf v (link s state) = noFigures
 figuresOf v (reach i) = oneFigure (reachFigure v i)
+figuresOf v diagnose = diagnosis v

@@ -16,4 +16,5 @@ pub mod LayAlone
 pub mod Alike
 pub mod Demand3
 pub mod ReachExact
+pub mod DiagnoseExact
 pub mod SoundKept

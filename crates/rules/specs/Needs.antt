@@ -12,7 +12,7 @@ use Rattle.quorum.specs.Sets.{member}
 use Rattle.quorum.specs.Promise.{Valid}
 use Rattle.layout.specs.Fields.{Kind, none, read, write, change}
 use Rattle.layout.specs.View.{Table, State, view, own, foundByVersion, foundByGeneration}
-use Rattle.rules.specs.Calls.{Call, lay, openRead, openWrite, openChange, poll, put, commit, abandon, link, reach}
+use Rattle.rules.specs.Calls.{Call, lay, openRead, openWrite, openChange, poll, put, commit, abandon, link, reach, diagnose}
 use Rattle.rules.specs.Calls.{isLay, dataSort, configSort, offState, onState}
 use Rattle.rules.specs.Reply.{reply}
 use Rattle.rules.specs.Demand2.{Found, Heard, Spent, Written}
@@ -83,6 +83,7 @@ needs v commit =
 needs v abandon = (1, v .isSound ≡ true) ∷ (5, v .round .kind ≡ none → ⊥) ∷ []
 needs v (link s state) = (1, v .isSound ≡ true) ∷ (2, (s < v .n) × ((state ≡ offState) ⊎ (state ≡ onState))) ∷ []
 needs v (reach i) = (1, v .isSound ≡ true) ∷ (2, i < v .m) ∷ []
+needs v diagnose = (1, v .isSound ≡ true) ∷ (5, v .round .kind ≡ none → ⊥) ∷ []
 
 -- a call is allowed if it has all that it needs
 abbrev pub Allowed : State → Call → Type 0

@@ -8,7 +8,7 @@ use mathlib.Core.Path.{_≡_}
 use mathlib.Core.Bool.{Bool, true, false, _||_}
 use mathlib.Core.List.{List, [], _∷_, _++_}
 use mathlib.Core.Logic.{_↔_, _⊎_}
-use Prim.Native.Nat.{ℕ, _-_, _^_}
+use Prim.Native.Nat.{ℕ, _-_, _^_, _≤_}
 use lib.Dec.{eqb}
 use Rattle.basics.specs.Bytes.{AreBytes}
 use Rattle.quorum.specs.Sets.{member}
@@ -24,7 +24,7 @@ use Rattle.rules.specs.Reply.{reply, after}
 use Rattle.rules.specs.Lists.{replies, afterAll, AllPassable}
 use Rattle.rules.specs.Book.{Book, Entry, entry, Gives, fedAll}
 use Rattle.rules.specs.Demand2.{QuorumIn, HeardBy}
-use Rattle.rules.specs.Steps.{SameCopies}
+use Rattle.rules.specs.Steps.{SameCopies, PlaceShown}
 use Rattle.rules.specs.declared.Reply.{Reply}
 
 -- ---- all stations on the bus, in any order
@@ -66,10 +66,12 @@ abbrev pub lastFigure : ℕ → List Reply → ℕ
 lastFigure x [] = x
 lastFigure x (r ∷ rest) = lastFigure (r .first) rest
 
--- the replies to the polls: all are done, and the last says heard, or not. With nobody on the bus there are none, and nothing is heard.
-pub record PollsSay (figure : ℕ) (answers : List Reply) : Type 0 where
+-- the replies to the polls: all are done, and the last shows the read place of what they find together (2026-04). With nobody on the bus there is no poll
+-- and no reply, and nothing is heard.
+pub record PollsSay (v : State) (i figure : ℕ) (answers : List Reply) : Type 0 where
   pub done : AllDone answers
-  pub heard : (lastFigure 0 answers ≡ 1) ↔ Readable figure
+  pub place : PlaceShown v i (onBus v) (lastFigure 0 answers)
+  pub heard : (1 ≤ lastFigure 0 answers) ↔ Readable figure
   pub unheard : (lastFigure 0 answers ≡ 0) ↔ (figure ≡ 0)
 
 -- the number of the commit after such calls, by whether a counter that the round must raise is spent, and whether the quorums that it must write are on the
@@ -133,20 +135,20 @@ pub record ReachExact : Type 0 where
       → reply u (reach i) ≡ reply t (reach i)
   -- an opening of the item, and polls of all stations on the bus
   pub hears : (t : Table) (c : Call) (i : ℕ) (order : List ℕ) → AreBytes t → Passable c → Opens c i → reply t c .number ≡ 0 → AllOn (view t) order
-      → PollsSay (reply t (reach i) .first) (replies (after t c) (polls order))
+      → PollsSay (view t) i (reply t (reach i) .first) (replies (after t c) (polls order))
   -- the commit of a read with those polls
   pub reads : (t : Table) (i : ℕ) (order : List ℕ) → AreBytes t → reply t (openRead i) .number ≡ 0 → AllOn (view t) order
       → Closes (reply t (reach i) .first) (reply (afterAll t (openRead i ∷ polls order)) commit .number) ⊥ (Unit {0})
   -- that of a write, with data puts at all of them, in any order too
-  pub writes : (t : Table) (i value : ℕ) (order places : List ℕ) → AreBytes t → Passable (openWrite i value) → reply t (openWrite i value) .number ≡ 0
-      → AllOn (view t) order → AllOn (view t) places
-      → Closes (reply t (reach i) .first) (reply (afterAll t (openWrite i value ∷ polls order ++ puts dataSort places)) commit .number)
+  pub writes : (t : Table) (i value : ℕ) (order dataAt : List ℕ) → AreBytes t → Passable (openWrite i value) → reply t (openWrite i value) .number ≡ 0
+      → AllOn (view t) order → AllOn (view t) dataAt
+      → Closes (reply t (reach i) .first) (reply (afterAll t (openWrite i value ∷ polls order ++ puts dataSort dataAt)) commit .number)
       (SpentOn (λ c. c .version) (view t) i) (reply t (reach i) .first ≡ 3)
   -- that of a change, with data puts and then configuration puts at all of them: they must hold a write set of the target as well
-  pub changes : (t : Table) (i : ℕ) (target order places others : List ℕ) → AreBytes t → Passable (openChange i target)
-      → reply t (openChange i target) .number ≡ 0 → AllOn (view t) order → AllOn (view t) places → AllOn (view t) others
+  pub changes : (t : Table) (i : ℕ) (target order dataAt configAt : List ℕ) → AreBytes t → Passable (openChange i target)
+      → reply t (openChange i target) .number ≡ 0 → AllOn (view t) order → AllOn (view t) dataAt → AllOn (view t) configAt
       → Closes (reply t (reach i) .first)
-      (reply (afterAll t (openChange i target ∷ polls order ++ (puts dataSort places ++ puts configSort others))) commit .number)
+      (reply (afterAll t (openChange i target ∷ polls order ++ (puts dataSort dataAt ++ puts configSort configAt))) commit .number)
       (SpentOn (λ c. c .generation) (view t) i) ((reply t (reach i) .first ≡ 3) × QuorumIn (writeSet target) (onBus (view t)))
   -- over every list of demand 3, refused calls and further lays included, whatever the book held before it
   pub over-lists : (t : Table) (b : Book) (n m value : ℕ) (config : List ℕ) (calls : List Call)

@@ -8,7 +8,7 @@ use Rattle.quorum.specs.Configurations.{valid, holdsWrite}
 use Rattle.layout.specs.Layout.{listed}
 use Rattle.layout.specs.Fields.{Kind, none, read, write, change}
 use Rattle.layout.specs.View.{State, foundByVersion, foundByGeneration, heard}
-use Rattle.rules.specs.Calls.{Call, lay, openRead, openWrite, openChange, poll, put, commit, abandon, link, reach}
+use Rattle.rules.specs.Calls.{Call, lay, openRead, openWrite, openChange, poll, put, commit, abandon, link, reach, diagnose}
 use Rattle.rules.specs.Calls.{isLay, isData, isConfigSort, isOff, isOn}
 
 -- tests with their numbers, in the order in which they are made; the first that applies gives the number, 0 is done
@@ -35,7 +35,7 @@ noLink state = not (isOff state || isOn state)
 abbrev pub noSize : ℕ → ℕ → Bool
 noSize n m = not (listed n m)
 
--- 4, busy: "an opening while a round is open"; 5, idle: "poll, put, commit, abandon without a round"
+-- 4, busy: "an opening while a round is open"; 5, idle: "poll, put, commit, abandon without a round", and diagnose
 abbrev pub idle : Kind → Bool
 idle none = true
 idle read = false
@@ -101,6 +101,8 @@ tests v commit = (isIdle v, 5) ∷ (not (heard v), 8) ∷ commitTests v (v .roun
 tests v abandon = (isIdle v, 5) ∷ []
 tests v (link s state) = (noStation v s || noLink state, 2) ∷ []
 tests v (reach i) = (noItem v i, 2) ∷ []
+-- document 02, 2026-04: "It gets 1 and 5 as commit does."
+tests v diagnose = (isIdle v, 5) ∷ []
 
 -- every call but lay asks first whether the table is sound
 unfoldable pub refusals : State → Call → Chain

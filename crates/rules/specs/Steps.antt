@@ -7,19 +7,21 @@ use mathlib.Core.Path.{_≡_}
 use mathlib.Core.Bool.{true, false, not, _&&_, _||_}
 use mathlib.Core.List.{List}
 use mathlib.Core.Logic.{_↔_, _⊎_}
-use Prim.Native.Nat.{ℕ, _+_, _<_}
+use Prim.Native.Nat.{ℕ, suc, _+_, _≤_, _<_}
 use lib.Dec.{ltb, eqb}
 use Rattle.basics.specs.Bytes.{AreBytes}
 use Rattle.quorum.specs.Sets.{member}
-use Rattle.quorum.specs.Configurations.{writeSet}
+use Rattle.quorum.specs.Configurations.{readSet, writeSet}
+use Rattle.quorum.specs.Promise.{FirstIn}
 use Rattle.layout.specs.Fields.{Kind, none, read, write, change, Round}
+use Rattle.layout.specs.Newest.{IsNewest}
 use Rattle.layout.specs.View.{Table, State, view, onBus, own}
 use Rattle.layout.specs.Updates.{noTarget}
-use Rattle.rules.specs.Calls.{Call, lay, openRead, openWrite, openChange, poll, put, commit, abandon, link, reach}
+use Rattle.rules.specs.Calls.{Call, lay, openRead, openWrite, openChange, poll, put, commit, abandon, link, reach, diagnose}
 use Rattle.rules.specs.Calls.{dataSort, configSort, offState, onState}
 use Rattle.rules.specs.Passed.{Passable}
 use Rattle.rules.specs.Reply.{reply, after}
-use Rattle.rules.specs.Demand2.{QuorumIn, Found, Heard, HeardBy}
+use Rattle.rules.specs.Demand2.{QuorumIn, Found, HeardBy, Commits}
 use Rattle.rules.specs.declared.Reply.{Reply}
 
 -- ---- sets: b is a with station s, and b is a without it
@@ -70,7 +72,19 @@ pub record Opened (v w : State) (k : Kind) (i x : ℕ) (l : List ℕ) : Type 0 w
   pub off : w .off ≡ v .off
   pub round : Fresh (w .round) k i x l
 
--- ---- poll: the station "joins the polled set"; "Poll's first figure is 1 if the round is now heard."
+-- ---- the read place, document 02, 2026-04: "one plus that place, or 0". The figure is one plus the first read place whose set lies within a station set, of
+-- the configuration that polling this set finds for an item; 0 if there is none, and then polling the set is not heard.
+pub record PlaceShown (v : State) (i set figure : ℕ) : Type 0 where
+  pub held : (k : ℕ) → (figure ≡ suc k)
+      ↔ ((g : ℕ) × IsNewest (λ s. v .copies i s .generation) set (v .n) g × FirstIn (readSet (v .copies i g .config)) set k)
+  pub heard : (1 ≤ figure) ↔ ((g : ℕ) × HeardBy v i set g)
+  pub unheard : (figure ≡ 0) ↔ ((g : ℕ) → HeardBy v i set g → ⊥)
+
+-- that of the open round
+abbrev pub OwnPlaceShown : State → ℕ → Type 0
+OwnPlaceShown v figure = PlaceShown v (v .round .item) (v .round .polled) figure
+
+-- ---- poll: the station "joins the polled set"; "poll's first figure becomes one plus that place, or 0" (2026-04), as the round is now
 pub record Polled (v w : State) (s : ℕ) (r : Reply) : Type 0 where
   pub copies : SameCopies v w
   pub order : SameOrder v w
@@ -78,8 +92,7 @@ pub record Polled (v w : State) (s : ℕ) (r : Reply) : Type 0 where
   pub polled : Joined (v .round .polled) s (w .round .polled)
   pub dataPuts : w .round .dataPuts ≡ v .round .dataPuts
   pub configPuts : w .round .configPuts ≡ v .round .configPuts
-  pub heard : (r .first ≡ 1) ↔ ((f : Found w) × Heard w f)
-  pub unheard : (r .first ≡ 0) ↔ ((f : Found w) → Heard w f → ⊥)
+  pub place : OwnPlaceShown w (r .first)
   pub noOther : (r .second ≡ 0) × (r .third ≡ 0)
 
 -- ---- put: the station "joins that put set", "1 data or 2 configuration"
@@ -138,6 +151,15 @@ pub record Reached (v : State) (i : ℕ) (r : Reply) : Type 0 where
   pub writes : (r .first ≡ 3) ↔ ((g : ℕ) × HeardBy v i (onBus v) g × QuorumIn (writeSet (v .copies i g .config)) (onBus v))
   pub noOther : ((r .first ≡ 0) ⊎ ((r .first ≡ 1) ⊎ (r .first ≡ 3))) × (r .second ≡ 0) × (r .third ≡ 0)
 
+-- ---- diagnose, document 02, 2026-04: "the number commit would give now; one plus the station that gave the version, or 0; one plus the read place, or
+-- 0". That the number is commit's own is in DiagnoseExact.antt.
+pub record Diagnosed (v : State) (r : Reply) : Type 0 where
+  pub commits : Commits v (v .round .kind) (r .first)
+  -- of the polled stations the lowest that has the greatest version, heard or not; none exactly if nothing is polled
+  pub station : (s : ℕ) → (r .second ≡ suc s) ↔ IsNewest (λ k. own v k .version) (v .round .polled) (v .n) s
+  pub noStation : (r .second ≡ 0) ↔ (v .round .polled ≡ 0)
+  pub place : OwnPlaceShown v (r .third)
+
 -- the state before a call, the state after it, and its reply
 abbrev pub Step : Call → State → State → Reply → Type 0
 Step (lay n m value config) v w r = Laid w n m value config
@@ -150,7 +172,9 @@ Step commit v w r = Committed v w r
 Step abandon v w r = Opened v w none 0 0 noTarget
 Step (link s state) v w r = Linked v w s state
 Step (reach i) v w r = Reached v i r
+Step diagnose v w r = Diagnosed v r
 
 pub record Steps : Type 0 where
   pub step : (t : Table) (c : Call) → AreBytes t → Passable c → reply t c .number ≡ 0 → Step c (view t) (view (after t c)) (reply t c)
   pub reach-changes-nothing : (t : Table) (i : ℕ) → after t (reach i) ≡ t
+  pub diagnose-changes-nothing : (t : Table) → after t diagnose ≡ t

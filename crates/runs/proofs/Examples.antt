@@ -7,7 +7,7 @@ use Rattle.basics.specs.Bytes.{littleEndian, bytesOf, over}
 use Rattle.basics.specs.Tests.{all, allBelow, anyBelow}
 use Rattle.quorum.specs.Sets.{member, used, holds, shares, within, join, minus, remove, full}
 use Rattle.quorum.specs.Configurations.{setAt, readSet, writeSet, usedFirst, someUsed, allWithin, sharesAll, allShare}
-use Rattle.quorum.specs.Configurations.{validity, valid, holdsPlace, holdsRead, holdsWrite}
+use Rattle.quorum.specs.Configurations.{validity, valid, holdsPlace, firstPlace, orElse, firstRead, firstWrite, placeFigure, isPlace}
 use Rattle.layout.specs.Layout.{address, tableLength}
 use Rattle.layout.specs.Fields.{copyFrom}
 use Rattle.layout.specs.Soundness.{roundSound, copiesValid, soundness, sound}
@@ -39,7 +39,7 @@ pub frame-cases : FrameCases
 unfolding text chars shown littleEndian isDigit allDigits valueOf byteOf bytesIn frameLength callByte isFrame callsOf callAt callOf inFront linesOf
     run answers printed tableAfter replyTo lent layLength replyLine replyBytes digitOf hexOf replyOf after numberOf tests refusals first view
     figuresOf done tableLength address sound soundness roundSound copiesValid all allBelow anyBelow valid validity setAt readSet writeSet usedFirst
-    someUsed allWithin sharesAll allShare holdsPlace holdsRead holdsWrite member used holds shares within join minus remove full copyFrom bytesOf over
-    setOff setPolled setPuts setRound putData putConfig copyBytes repeated putCopies newest byVersion byGeneration hears frameCase frameReplies
-    refusedCase refusedReplies
+    someUsed allWithin sharesAll allShare holdsPlace firstPlace orElse firstRead firstWrite placeFigure isPlace member used holds shares within join
+    minus remove full copyFrom bytesOf over setOff setPolled setPuts setRound putData putConfig copyBytes repeated putCopies newest byVersion
+    byGeneration hears frameCase frameReplies refusedCase refusedReplies
 frame-cases = refl

@@ -5,9 +5,8 @@ use Prim.Native.Nat.{ℕ, _+_, _*_}
 use native.Mathlib.Nat.{zero-add}
 use lib.ListN.{length, getD}
 use borrow.Author.Tests.{eq-eqb}
-use Rattle.basics.specs.Tests.{anyBelow}
-use Rattle.quorum.specs.Configurations.{setAt, readSet, writeSet, holdsPlace, holdsRead, holdsWrite, firstPlace, firstRead, firstWrite, configSize}
-use Rattle.sets.specs.Inner.{anyHeld, firstHeld}
+use Rattle.quorum.specs.Configurations.{setAt, readSet, writeSet, holdsPlace, firstPlace, firstRead, firstWrite, configSize}
+use Rattle.sets.specs.Inner.{firstHeld}
 use Rattle.basics.proofs.Bytes.{number-two}
 
 -- ---- a set by its two bytes
@@ -19,14 +18,6 @@ set-bytes c place l = rw (eq-eqb (length c) configSize l, number-two c (2 * plac
 reads-held : (c : List ℕ) (set k : ℕ) → holdsPlace (setAt c) set (0 + k) ≡ holdsPlace (readSet c) set k
 unfolding holdsPlace readSet
 reads-held c set k = rw zero-add
-
-pub any-read : (c : List ℕ) (set : ℕ) → anyHeld c 0 set ≡ holdsRead c set
-unfolding anyHeld holdsRead
-any-read c set = ap (λ p. anyBelow p 8) (fun-ext (reads-held c set))
-
-pub any-write : (c : List ℕ) (set : ℕ) → anyHeld c 8 set ≡ holdsWrite c set
-unfolding anyHeld holdsWrite holdsPlace writeSet
-any-write c set = refl
 
 pub first-of-read : (c : List ℕ) (set : ℕ) → firstHeld c 0 set ≡ firstRead c set
 unfolding firstHeld firstRead

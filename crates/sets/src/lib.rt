@@ -3,8 +3,8 @@ ghost use mathlib.Core.Path.{_≡_};
 ghost use Prim.Native.Nat.{_<_, _≤_};
 ghost use lib.ListN.{length};
 ghost use Rattle.quorum.specs.Sets.{member, shares, within, join, unite, minus, remove, lowest, full};
-ghost use Rattle.quorum.specs.Configurations.{configSize, setAt, holdsPlace, holdsRead, holdsWrite, firstRead, firstWrite};
-ghost use Rattle.sets.specs.Inner.{anyHeld, firstHeld};
+ghost use Rattle.quorum.specs.Configurations.{configSize, setAt, holdsPlace, firstRead, placeFigure, isPlace, holdsRead, holdsWrite};
+ghost use Rattle.sets.specs.Inner.{firstHeld};
 use quorum::CONFIG_SIZE;
 use quorum::Place;
 
@@ -108,10 +108,10 @@ fn place_held(config: &[u8], place: usize, set: u16) -> bool
     (other != 0) & (set & other == other)
 }
 
-// Whether a used set of the side that starts at a place is held by the set.
+// Whether a used set of the side that starts at a place is held by the set. No branch: it is asked more often than which set it is.
 fn any_held(config: &[u8], side: usize, set: u16) -> bool
     requires { ⌜ (side ≤ 8) × (length (now config) ≡ configSize) ⌝ }
-    ensures { λ r. ⌜ r ≡ anyHeld (now (config .entry)) side set ⌝ }
+    ensures { λ r. ⌜ r ≡ isPlace (firstHeld (now (config .entry)) side set) ⌝ }
 {
     let mut any = false;
     for k in 0..8usize {
@@ -133,6 +133,38 @@ fn first_held(config: &[u8], side: usize, set: u16) -> Place
     Place::Nowhere
 }
 
+// The first read place whose set the given set holds.
+pub fn first_read_place(config: &[u8], set: u16) -> Place
+    ensures { λ r. ⌜ r ≡ firstRead (now (config .entry)) set ⌝ }
+{
+    if config.len() == CONFIG_SIZE {
+        first_held(config, 0, set)
+    } else {
+        Place::Nowhere
+    }
+}
+
+// Whether there is a place.
+pub fn is_place(place: Place) -> bool
+    ensures { λ r. ⌜ r ≡ isPlace place ⌝ }
+{
+    match place {
+        Place::At(_) => true,
+        Place::Nowhere => false,
+    }
+}
+
+// One plus the place, or 0.
+pub fn place_figure(place: Place) -> u64
+    requires { ⌜ placeFigure place ≤ 8 ⌝ }
+    ensures { λ r. ⌜ r ≡ placeFigure place ⌝ }
+{
+    match place {
+        Place::At(k) => k as u64 + 1,
+        Place::Nowhere => 0,
+    }
+}
+
 // Whether the set holds a read set of the configuration.
 pub fn holds_read_set(config: &[u8], set: u16) -> bool
     ensures { λ r. ⌜ r ≡ holdsRead (now (config .entry)) set ⌝ }
@@ -152,27 +184,5 @@ pub fn holds_write_set(config: &[u8], set: u16) -> bool
         any_held(config, 8, set)
     } else {
         false
-    }
-}
-
-// The first read place whose set the given set holds.
-pub fn first_read_place(config: &[u8], set: u16) -> Place
-    ensures { λ r. ⌜ r ≡ firstRead (now (config .entry)) set ⌝ }
-{
-    if config.len() == CONFIG_SIZE {
-        first_held(config, 0, set)
-    } else {
-        Place::Nowhere
-    }
-}
-
-// The first write place whose set the given set holds.
-pub fn first_write_place(config: &[u8], set: u16) -> Place
-    ensures { λ r. ⌜ r ≡ firstWrite (now (config .entry)) set ⌝ }
-{
-    if config.len() == CONFIG_SIZE {
-        first_held(config, 8, set)
-    } else {
-        Place::Nowhere
     }
 }

@@ -1,7 +1,7 @@
 // What the copies of an item at the stations of a set give: the newest by version and the newest by generation.
 ghost use mathlib.Core.Path.{_≡_};
-ghost use Prim.Native.Nat.{_<_};
-ghost use Rattle.layout.specs.Newest.{newest, newer};
+ghost use Prim.Native.Nat.{_<_, _≤_};
+ghost use Rattle.layout.specs.Newest.{newest, newer, stationFigure};
 ghost use Rattle.table.specs.Search.{asOption, Below, InTable, versionsOf, generationsOf};
 use crate::copy::address;
 use crate::copy::generation_at;
@@ -11,6 +11,17 @@ use crate::copy::version_at;
 pub enum Station {
     At(usize),
     Nobody,
+}
+
+// One plus the station, or 0.
+pub fn station_figure(station: Station) -> u64
+    requires { ⌜ stationFigure (asOption station) ≤ 16 ⌝ }
+    ensures { λ r. ⌜ r ≡ stationFigure (asOption station) ⌝ }
+{
+    match station {
+        Station::At(s) => s as u64 + 1,
+        Station::Nobody => 0,
+    }
 }
 
 // The stations whose copies are the newest.

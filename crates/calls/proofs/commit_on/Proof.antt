@@ -1,49 +1,93 @@
-use mathlib.Core.Path.{_∙_}
+use mathlib.Core.Path.{ap, _∙_}
+use native.Mathlib.Omega.{arith}
+use borrow.Author.Needs.{needs}
 use Rattle.layout.specs.View.{view}
 use Rattle.layout.proofs.Soundness.{sound-head, is-sound}
 use Rattle.rounds.proofs.Hearing.{items-in-table}
+use Rattle.rules.proofs.Judged.{a-round}
+use Rattle.numbers.proofs.Refusals.{is-idle, is-open}
+use Rattle.closing.proofs.Answers.{idle-reply}
 use Rattle.calls.proofs.Committing.{commit-refused, commit-finished}
-use borrow.Author.Needs.{needs}
 use Rattle.calls.proofs.commit_on.Statement.{statement}
 use Rattle.calls.proofs.commit_on.Tie as tie
 
-of-requires : tie.Need-of-requires
-of-requires c κs = sound-head _ (c .before .before .pre)
+-- from the kind that was read, and from the look ahead, back to the call
+abbrev called : tie.After-kind → tie.Start
+called c = c .before .before .before
 
-commit-reply-requires : tie.Need-commit-reply-requires
-commit-reply-requires c κs = (c .before .before .before .before .pre, c .before .of .ensures)
+abbrev looked : tie.After-look-ahead → tie.Start
+looked c = called (c .before .before .before)
+
+-- from the round that was read to the look ahead
+abbrev ahead : tie.After-stations → tie.After-look-ahead
+ahead c = c .before .before .before .before .before .before
+
+kind-requires : tie.Need-kind-requires
+kind-requires c κs = sound-head _ (c .before .before .pre)
+
+plain-requires : tie.Need-plain-requires
+plain-requires c κs = search needs
 
 same-length : tie.Need-same-length
 same-length c = search needs
 
 returns : tie.Need-returns
-returns c = commit-refused _ (c .before .before .commit-reply .ensures) (c .if1 .taken)
-
-stations-requires : tie.Need-stations-requires
-stations-requires c κs =
-    let told = c .before .before .before .before .before .before in sound-head _ (told .before .before .before .pre)
-
-finish-requires : tie.Need-finish-requires
 unfolding view
-finish-requires c κs =
-    let round = c .before .before .before .before .before .before .before in
-    let s = round .before .before .before .pre in
-    (rw (c .stations .ensures, round .of .ensures) (items-in-table _ s _ (is-sound _ s .item)), round .of .ensures)
+returns c =
+    let asked = c .before .before in
+    let idle = is-idle (asked .kind .ensures) (c .before .if1 .taken) in
+    let five = ap (λ r. r .number) (c .plain .ensures) in
+    commit-refused _ (c .plain .ensures ∙ idle-reply _ (called asked .pre) idle) (λ z. omega arith)
+
+look-ahead-requires : tie.Need-look-ahead-requires
+unfolding view
+look-ahead-requires c κs =
+    let left = c .before in
+    let asked = left .before in (called asked .pre, a-round _ .0 (is-open (asked .kind .ensures) (left .if1 .left)))
 
 same-length-2 : tie.Need-same-length-2
 same-length-2 c = search needs
 
 returns-2 : tie.Need-returns-2
+returns-2 c = commit-refused _ (c .before .before .before .look-ahead .ensures .0) (c .if2 .taken)
+
+stations-requires : tie.Need-stations-requires
+stations-requires c κs = sound-head _ (looked (c .before .before .before .before .before) .pre)
+
+of-requires : tie.Need-of-requires
+of-requires c κs = sound-head _ (looked (ahead (c .before)) .pre)
+
+finish-requires : tie.Need-finish-requires
 unfolding view
-returns-2 c =
-    let counted = c .before .before .before in
-    let told = counted .before .before .before .before .before in
-    let round = told .before .before in
-    let start = round .before .before .before in
-    commit-finished _ (told .commit-reply .ensures) (counted .before .before .before .if1 .left)
-    (c .before .before .finish .ensures ∙ rw (counted .stations .ensures, round .of .ensures))
+finish-requires c κs =
+    let counted = c .before .before in
+    let s = looked (ahead counted) .pre in
+    (rw (counted .stations .ensures, c .«of» .ensures) (items-in-table _ s _ (is-sound _ s .item)), c .«of» .ensures)
+
+same-length-3 : tie.Need-same-length-3
+same-length-3 c = search needs
+
+returns-3 : tie.Need-returns-3
+returns-3 c =
+    let finished = c .before .before in
+    let round = finished .before in
+    let counted = round .before .before in
+    commit-finished _ (ahead counted .look-ahead .ensures .0) (counted .before .before .before .if2 .left) (counted .stations .ensures) (round .«of» .ensures)
+    (finished .finish .ensures)
 
 pub commit-on-spec : {M : Type 1} → statement M
 commit-on-spec =
     tie.close
-    (tie.spec of-requires commit-reply-requires same-length returns stations-requires finish-requires same-length-2 returns-2)
+    (tie.spec
+    kind-requires
+    plain-requires
+    same-length
+    returns
+    look-ahead-requires
+    same-length-2
+    returns-2
+    stations-requires
+    of-requires
+    finish-requires
+    same-length-3
+    returns-3)

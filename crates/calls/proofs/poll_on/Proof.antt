@@ -10,7 +10,7 @@ use Rattle.numbers.proofs.Refusals.{own-copies}
 use Rattle.rules.specs.Calls.{poll}
 use Rattle.rules.specs.After.{done}
 use Rattle.openings.proofs.Replies.{refused, finished}
-use Rattle.calls.proofs.Figures.{poll-figure}
+use Rattle.calls.proofs.Figures.{poll-figure, place-small}
 use Rattle.calls.proofs.poll_on.Statement.{statement}
 use Rattle.calls.proofs.poll_on.Tie as tie
 
@@ -52,16 +52,17 @@ poll-requires c κs = search needs
 stations-requires : tie.Need-stations-requires
 stations-requires c κs = sound-head _ (at-poll (c .before) .pre)
 
-is-heard-requires : tie.Need-is-heard-requires
-is-heard-requires c κs =
+heard-place-requires : tie.Need-heard-place-requires
+heard-place-requires c κs =
     let polled = c .before .before in
     own-copies _ (at-poll polled .pre) (c .stations .ensures) (ap (λ r. r .item) (round polled))
 
 set-polled-requires : tie.Need-set-polled-requires
 set-polled-requires c κs = sound-head _ (at-poll (c .before .before .before .before) .pre)
 
-one-if-requires : tie.Need-one-if-requires
-one-if-requires c κs = search needs
+place-figure-requires : tie.Need-place-figure-requires
+place-figure-requires c κs =
+    let found = c .before .before .before .before in place-small _ _ _ _ (found .heard-place .ensures)
 
 same-length-2 : tie.Need-same-length-2
 same-length-2 c = search needs
@@ -70,13 +71,13 @@ returns-2 : tie.Need-returns-2
 unfolding done view
 returns-2 c =
     let written = c .before .before .before in
-    let heard = written .before .before in
-    let polled = heard .before .before .before in
+    let found = written .before .before in
+    let polled = found .before .before .before in
     let allowed = polled .before .before .before in
     let asked = allowed .before in
     let item = ap (λ r. r .item) (round polled) in
     let set = ap (λ r. r .polled) (round polled) in
-    let figure = poll-figure _ _ (heard .before .stations .ensures) item set (heard .is-heard .ensures) (c .one-if .ensures) in
+    let figure = poll-figure _ _ (found .before .stations .ensures) item set (found .heard-place .ensures) (c .place-figure .ensures) in
     finished _ (at-poll polled .pre) (poll _) refl (asked .poll-number .ensures) (allowed .if1 .left) figure
     (written .set-polled .ensures ∙ ap (setPolled _) set)
 
@@ -91,8 +92,8 @@ poll-on-spec =
     of-requires
     poll-requires
     stations-requires
-    is-heard-requires
+    heard-place-requires
     set-polled-requires
-    one-if-requires
+    place-figure-requires
     same-length-2
     returns-2)

@@ -2,57 +2,32 @@ use mathlib.Core.Path.{_≡_, ap, _∙_}
 use borrow.Author.Needs.{needs}
 use Rattle.basics.specs.Bytes.{number}
 use Rattle.layout.specs.Layout.{kindAt}
-use Rattle.layout.specs.View.{Table, view}
-use Rattle.layout.proofs.Soundness.{sound-head}
+use Rattle.layout.specs.View.{Table, view, heard}
 use Rattle.rules.proofs.Judged.{a-round}
-use Rattle.closing.specs.Closing.{HeardAt}
-use Rattle.numbers.proofs.Refusals.{is-change, is-idle, is-kind, is-open, own-copies}
-use Rattle.closing.proofs.Hears.{OwnSays, own-says, not-heard, heard-at}
-use Rattle.closing.proofs.Answers.{closes, idle-reply, unheard-reply}
+use Rattle.closing.specs.Closing.{HeardAt, Says}
+use Rattle.closing.specs.declared.Hearing.the-variants.{Copies, Unheard}
+use Rattle.numbers.proofs.Refusals.{is-change, is-kind}
+use Rattle.closing.proofs.Answers.{closes, unheard-reply}
 use Rattle.closing.proofs.commit_reply.Statement.{statement}
 use Rattle.closing.proofs.commit_reply.Tie as tie
 
-abbrev called : tie.Else1 → tie.Start
+abbrev called : tie.After-heard-copies → tie.Start
 called c = c .before .before
+
+abbrev table : tie.After-heard-copies → Table
+table c = (called c .args .t) .now
 
 kind-is : (c : tie.Start) → c .args .round .kind ≡ number ((c .args .t) .now) kindAt 1
 kind-is c = ap (λ r. r .kind) (c .pre .1)
 
--- the answer of `hear`, and the copies that a heard round has found
-abbrev opened : tie.After-hear → tie.Else1
-opened c = c .before .before
-
-abbrev table : tie.After-hear → Table
-table c = (called (opened c) .args .t) .now
-
-answered : (c : tie.After-hear) → OwnSays (table c) (c .hear .result)
-answered c =
-    let round = called (opened c) .pre .1 in
-    own-says _ (c .hear .result) (c .before .stations .ensures) (ap (λ r. r .item) round) (ap (λ r. r .polled) round) (c .hear .ensures)
-
+-- the copies that a heard round has found
 found : (c : tie.After-b) → HeardAt (table (c .before .before)) (c .b .given .0 .0) (c .b .given .0 .1 .0)
-unfolding view
 found c =
-    let hear = c .before .before in
-    let start = called (opened hear) in
-    let is-opened = a-round _ .0 (is-open (kind-is start) (opened hear .if1 .left)) in
-    heard-at _ (answered hear) (start .pre .0) is-opened (c .b .given .1)
+    let heard = c .before .before in
+    let says : Says (table heard) (Copies (c .b .given .0 .0) (c .b .given .0 .1 .0)) = rw (c .b .given .1) at (heard .heard-copies .ensures) in says
 
-plain-requires : tie.Need-plain-requires
-plain-requires c κs = search needs
-
-returns : tie.Need-returns
-unfolding view
-returns c =
-    let start = c .before .before .before in
-    c .plain .ensures ∙ idle-reply _ (start .pre .0) (is-idle (kind-is start) (c .before .if1 .taken))
-
-stations-requires : tie.Need-stations-requires
-stations-requires c κs = sound-head _ (called c .pre .0)
-
-hear-requires : tie.Need-hear-requires
-hear-requires c κs =
-    let pre = called (c .before) .pre in own-copies _ (pre .0) (c .stations .ensures) (ap (λ r. r .item) (pre .1))
+heard-copies-requires : tie.Need-heard-copies-requires
+heard-copies-requires c κs = let pre = c .before .pre in (pre .0, ap (λ r. r .item) (pre .1), pre .2)
 
 enum-known-b : tie.Need-enum-known-b
 enum-known-b c = search needs
@@ -60,61 +35,57 @@ enum-known-b c = search needs
 enum-told : tie.Need-enum-told
 enum-told c = search needs
 
-plain-requires-2 : tie.Need-plain-requires-2
-plain-requires-2 c κs = search needs
+plain-requires : tie.Need-plain-requires
+plain-requires c κs = search needs
 
-returns-2 : tie.Need-returns-2
-unfolding view
-returns-2 c =
+returns : tie.Need-returns
+returns c =
     let told = c .before in
-    let hear = told .before .before in
-    let start = called (opened hear) in
-    let is-opened = is-open (kind-is start) (opened hear .if1 .left) in
-    c .plain2 .ensures ∙ unheard-reply _ (start .pre .0) is-opened (not-heard _ (answered hear) (told .enum-told .given .1))
+    let heard = told .before .before in
+    let pre = called heard .pre .0 in
+    let unheard : Says (table heard) Unheard = rw (told .enum-told .given .1) at (heard .heard-copies .ensures) in
+    c .plain .ensures ∙ unheard-reply _ (pre .0) (a-round _ .1 (pre .1)) unheard
 
 read-reply-requires : tie.Need-read-reply-requires
 unfolding view
 read-reply-requires c κs =
-    let told = c .before .before in (found told, is-kind 1 (kind-is (called (opened (told .before .before)))) (c .if2 .taken))
+    let told = c .before .before in (found told, is-kind 1 (kind-is (called (told .before .before))) (c .if1 .taken))
 
-returns-3 : tie.Need-returns-3
-returns-3 c = c .read-reply .ensures ∙ closes _ (found (c .before .before .before))
+returns-2 : tie.Need-returns-2
+returns-2 c = c .read-reply .ensures ∙ closes _ (found (c .before .before .before))
 
 write-reply-requires : tie.Need-write-reply-requires
 unfolding view
 write-reply-requires c κs =
     let told = c .before .before .before in
-    let start = called (opened (told .before .before)) in ((found told, is-kind 2 (kind-is start) (c .if3 .taken)), start .pre .1)
+    let start = called (told .before .before) in ((found told, is-kind 2 (kind-is start) (c .if2 .taken)), start .pre .1)
 
-returns-4 : tie.Need-returns-4
-returns-4 c = c .write-reply .ensures ∙ closes _ (found (c .before .before .before .before))
+returns-3 : tie.Need-returns-3
+returns-3 c = c .write-reply .ensures ∙ closes _ (found (c .before .before .before .before))
 
 change-reply-requires : tie.Need-change-reply-requires
 unfolding view
 change-reply-requires c κs =
     let told = c .before .before .before in
-    let start = called (opened (told .before .before)) in
-    let changes = is-change (kind-is start) (found told .isOpen) (c .before .if2 .left) (c .if3 .left) in
+    let start = called (told .before .before) in
+    let changes = is-change (kind-is start) (found told .isOpen) (c .before .if1 .left) (c .if2 .left) in
     ((found told, changes), start .pre .1)
 
-returns-5 : tie.Need-returns-5
-returns-5 c = c .change-reply .ensures ∙ closes _ (found (c .before .before .before .before))
+returns-4 : tie.Need-returns-4
+returns-4 c = c .change-reply .ensures ∙ closes _ (found (c .before .before .before .before))
 
 pub commit-reply-spec : {M : Type 1} → statement M
 commit-reply-spec =
     tie.close
     (tie.spec
-    plain-requires
-    returns
-    stations-requires
-    hear-requires
+    heard-copies-requires
     enum-known-b
     enum-told
-    plain-requires-2
-    returns-2
+    plain-requires
+    returns
     read-reply-requires
-    returns-3
+    returns-2
     write-reply-requires
-    returns-4
+    returns-3
     change-reply-requires
-    returns-5)
+    returns-4)

@@ -151,6 +151,9 @@ argument-requires-11 c κs = let m = c .before in omega (arith, long (m .before)
 ospreyscreen-reach-requires : tie.Need-ospreyscreen-reach-requires
 ospreyscreen-reach-requires c κs = search needs
 
+ospreyscreen-diagnose-requires : tie.Need-ospreyscreen-diagnose-requires
+ospreyscreen-diagnose-requires c κs = search needs
+
 false-frame-requires-2 : tie.Need-false-frame-requires-2
 false-frame-requires-2 c κs = search needs
 
@@ -268,8 +271,17 @@ returns-11 c =
     let m = first .before .before in
     performed _ (called (m .before) 10 (m .match .keys10) ∙ rw (first .argument11 .ensures)) (x .ensures) (sym (steps .reach-changes-nothing _ _))
 
+same-length-11 : tie.Need-same-length-11
+same-length-11 c = search needs
+
 returns-12 : tie.Need-returns-12
+unfolding callsOf
 returns-12 c =
+    let m = c .before .before in
+    performed _ (called (m .before) 11 (m .match .keys11)) (c .ospreyscreen-diagnose .ensures) (sym (steps .diagnose-changes-nothing _))
+
+returns-13 : tie.Need-returns-13
+returns-13 c =
     let a = c .before .before .before .before .before .before .args in
     rw (other-code (a .code) (a .arguments .now) (c .before .match .rest)) (c .false-frame2 .ensures, refl)
 
@@ -312,6 +324,7 @@ perform-spec =
     ospreyscreen-link-requires
     argument-requires-11
     ospreyscreen-reach-requires
+    ospreyscreen-diagnose-requires
     false-frame-requires-2
     same-length
     returns-2
@@ -333,4 +346,6 @@ perform-spec =
     returns-10
     same-length-10
     returns-11
-    returns-12)
+    same-length-11
+    returns-12
+    returns-13)

@@ -1,9 +1,10 @@
 use borrow.Author.Needs.{needs}
 use Prim.Native.Nat.{_+_, _-_, _≤_}
-use mathlib.Core.Path.{_≡_, sym}
+use mathlib.Core.Path.{_≡_, sym, _∙_}
 use Rattle.basics.specs.Tests.{anyBelow}
 use Rattle.quorum.specs.Configurations.{setAt, holdsPlace}
-use Rattle.sets.specs.Inner.{anyHeld}
+use Rattle.sets.specs.Inner.{firstHeld}
+use Rattle.quorum.proofs.Promise.{promise}
 use Rattle.basics.proofs.Tests.{any-start, any-turn, any-end}
 use Rattle.sets.proofs.any_held.Statement.{statement}
 use Rattle.sets.proofs.any_held.Tie as tie
@@ -33,8 +34,9 @@ loop-again : tie.Need-loop-again Inv-loop μ-loop
 loop-again c = (search needs, any-turn _ _ (c .before .before .loop .inv .1) (c .place-held .ensures))
 
 returns : tie.Need-returns Inv-loop μ-loop
-unfolding anyHeld
-returns c = any-end _ 8 _ (c .before .loop .inv .0) (c .loop-test .left) (c .before .loop .inv .1)
+unfolding firstHeld
+returns c =
+    any-end _ 8 _ (c .before .loop .inv .0) (c .loop-test .left) (c .before .loop .inv .1) ∙ sym (promise .some-place _ 8)
 
 pub any-held-spec : {M : Type 1} → statement M
 any-held-spec =

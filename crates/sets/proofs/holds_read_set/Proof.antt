@@ -1,6 +1,7 @@
-use mathlib.Core.Path.{sym, _∙_}
-use Rattle.sets.proofs.Sides.{any-read}
+use mathlib.Core.Path.{sym, ap, _∙_}
+use Rattle.sets.proofs.Sides.{first-of-read}
 use Rattle.quorum.proofs.Promise.{promise}
+use Rattle.quorum.specs.Configurations.{isPlace}
 use borrow.Author.Needs.{needs}
 use Rattle.sets.proofs.holds_read_set.Statement.{statement}
 use Rattle.sets.proofs.holds_read_set.Tie as tie
@@ -9,7 +10,7 @@ any-held-requires : tie.Need-any-held-requires
 any-held-requires c κs = search needs
 
 returns : tie.Need-returns
-returns c = c .any-held .ensures ∙ any-read _ _
+returns c = c .any-held .ensures ∙ ap isPlace (first-of-read _ _)
 
 returns-2 : tie.Need-returns-2
 returns-2 c = sym (promise .short-read (c .before .before .args .config .now) (c .before .before .args .set) (c .if1 .left))

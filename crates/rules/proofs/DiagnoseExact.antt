@@ -1,0 +1,166 @@
+-- Diagnose is exact: its tests are commit's first two, and its figures those of the definition.
+use mathlib.Core.Path.{_≡_, refl, sym, ap, _∙_}
+use mathlib.Core.Logic.{_↔_, _⊎_, inl, inr}
+use Prim.Native.Nat.{ℕ, zero, suc}
+use native.Mathlib.Omega.{arith}
+use Rattle.basics.specs.Bytes.{AreBytes}
+use Rattle.basics.proofs.Tests.{clash, either}
+use Rattle.quorum.specs.Configurations.{placeFigure}
+use Rattle.layout.specs.View.{Table, view}
+use Rattle.layout.proofs.Soundness.{is-sound}
+use Rattle.rules.specs.Calls.{poll, commit, diagnose}
+use Rattle.rules.specs.Rules.{isIdle}
+use Rattle.rules.specs.Figures.{figuresOf}
+use Rattle.rules.specs.After.{done}
+use Rattle.rules.specs.Reply.{replyOf, reply, after}
+use Rattle.rules.specs.Needs.{needs}
+use Rattle.rules.specs.Steps.{Closing, Diagnosed}
+use Rattle.rules.specs.DiagnoseExact.{DiagnoseExact}
+use Rattle.rules.proofs.Judged.{numbered, idle-none, a-round}
+use Rattle.rules.specs.Demand2.{Found}
+use Rattle.rules.specs.Book.{Book, fed}
+use Rattle.rules.proofs.Quorums.{heard-exactly, heard-by}
+use Rattle.rules.proofs.Demand1.{reply-figures}
+use Rattle.rules.proofs.Demand2.{demand2}
+use Rattle.rules.proofs.Steps.{closing-step, place-after, diagnose-step}
+use Rattle.rules.proofs.Laws.{done-allowed, next-view}
+use Rattle.rules.proofs.Kept.{after-sound}
+use Rattle.rules.proofs.Twice.{settled}
+
+pub diagnose-nothing : (t : Table) → after t diagnose ≡ t
+unfolding done
+diagnose-nothing t = settled t diagnose refl
+
+book-kept : (b : Book) (number : ℕ) → fed b diagnose number ≡ b
+unfolding fed
+book-kept b zero = refl
+book-kept b (suc k) = refl
+
+module _ (t : Table) where
+  abbrev number : ℕ
+  number = reply t diagnose .number
+
+  abbrev committing : ℕ
+  committing = reply t commit .number
+
+  -- both get 1, both get 5, or diagnose is done and commit gets neither
+  abbrev Numbers : Type 0
+  Numbers = ((number ≡ 1) × (committing ≡ 1)) ⊎ (((number ≡ 5) × (committing ≡ 5)) ⊎ ((number ≡ 0) × ((committing ≡ 1) ⊎ (committing ≡ 5) → ⊥)))
+
+  numbers : Numbers
+  unfolding needs view
+  numbers =
+      either (view t .isSound)
+      (λ s. either (isIdle (view t))
+      (λ i. let e = idle-none (view t .round .kind) .0 i in
+      inr (inl (numbered .number-exactly t diagnose 5 .1 (inr (s, inl (λ o. o e, refl))), demand2 .no-round t s e)))
+      (λ i. let o = a-round (view t .round .kind) .0 i in
+      inr (inr (numbered .done-exactly t diagnose .1 (s, (o, tt)), neither (demand2 .open-round t s o .noOther)))))
+      (λ s. inl (numbered .number-exactly t diagnose 1 .1 (inl (λ e. clash e s, refl)), demand2 .unsound t s))
+    where
+      neither : (committing ≡ 0) ⊎ ((committing ≡ 8) ⊎ ((committing ≡ 10) ⊎ (committing ≡ 11))) → (committing ≡ 1) ⊎ (committing ≡ 5) → ⊥
+      neither (inl c) (inl e) = omega arith
+      neither (inl c) (inr e) = omega arith
+      neither (inr (inl c)) (inl e) = omega arith
+      neither (inr (inl c)) (inr e) = omega arith
+      neither (inr (inr (inl c))) (inl e) = omega arith
+      neither (inr (inr (inl c))) (inr e) = omega arith
+      neither (inr (inr (inr c))) (inl e) = omega arith
+      neither (inr (inr (inr c))) (inr e) = omega arith
+
+  unsound : (number ≡ 1) ↔ (committing ≡ 1)
+  unsound = go numbers
+    where
+      go : Numbers → (number ≡ 1) ↔ (committing ≡ 1)
+      go (inl h) = (λ _. h .1, λ _. h .0)
+      go (inr (inl h)) = let p = h .0 in let q = h .1 in (λ e. absurd (omega arith), λ e. absurd (omega arith))
+      go (inr (inr h)) = let p = h .0 in (λ e. absurd (omega arith), λ e. absurd (h .1 (inl e)))
+
+  idle : (number ≡ 5) ↔ (committing ≡ 5)
+  idle = go numbers
+    where
+      go : Numbers → (number ≡ 5) ↔ (committing ≡ 5)
+      go (inl h) = let p = h .0 in let q = h .1 in (λ e. absurd (omega arith), λ e. absurd (omega arith))
+      go (inr (inl h)) = (λ _. h .1, λ _. h .0)
+      go (inr (inr h)) = let p = h .0 in (λ e. absurd (omega arith), λ e. absurd (h .1 (inr e)))
+
+  no-other : (number ≡ 0) ⊎ ((number ≡ 1) ⊎ (number ≡ 5))
+  no-other = go numbers
+    where
+      go : Numbers → (number ≡ 0) ⊎ ((number ≡ 1) ⊎ (number ≡ 5))
+      go (inl h) = inr (inl (h .0))
+      go (inr (inl h)) = inr (inr (h .0))
+      go (inr (inr h)) = inl (h .0)
+
+  -- ---- where it is done
+  module _ (e : number ≡ 0) where
+    commits : reply t diagnose .first ≡ committing
+    unfolding figuresOf replyOf
+    commits = reply-figures t diagnose e .0
+
+    shows : Diagnosed (view t) (reply t diagnose)
+    unfolding needs
+    shows =
+        let a = done-allowed t diagnose e in diagnose-step (view t) (is-sound t (a .0)) (a .0) (a .1 .0) (reply t diagnose) (reply-figures t diagnose e)
+
+    unheard : (reply t diagnose .third ≡ 0) ↔ (reply t diagnose .first ≡ 8)
+    unheard = (
+      λ z. shows .commits .unheard .1 (λ f h. shows .place .unheard .0 z (f .g) (f .newestGeneration, h)),
+      λ z. shows .place .unheard .1 (λ g h. let x = heard-exactly (view t) .0 (heard-by (view t) (view t .round .item) (view t .round .polled) .1 (g, h)) in
+          shows .commits .unheard .0 z (x .0) (x .1)),
+    )
+
+    found : (f : Found (view t)) → reply t diagnose .second ≡ suc (f .b)
+    found f = shows .station (f .b) .1 (f .newestVersion)
+
+    closing : reply t diagnose .first ≡ 0
+        → (f : Found (view t)) × (reply t diagnose .second ≡ suc (f .b)) × Closing (view t) f (view t .round .kind) (reply t commit)
+    unfolding needs figuresOf
+    closing z =
+        let finished : committing ≡ 0 = sym commits ∙ z in
+        let a = done-allowed t commit finished in
+        let f = a .1 .1 .0 .0 in
+        (f, found f, closing-step (view t) f (reply t commit) (view t .round .kind) (a .1 .0) (reply-figures t commit finished))
+
+    nothing-polled : reply t diagnose .second ≡ 0 → reply t diagnose .first ≡ 8
+    nothing-polled z = shows .commits .unheard .1 (λ f h. let e = found f in omega arith)
+
+    then-gets : reply (after t diagnose) commit .number ≡ reply t diagnose .first
+    then-gets = rw (diagnose-nothing t) (sym commits)
+
+  -- ---- right after a poll
+  module _ (s : ℕ) (b : AreBytes t) (e : reply t (poll s) .number ≡ 0) where
+    abbrev polled : Table
+    polled = after t (poll s)
+
+    still-open : reply polled diagnose .number ≡ 0
+    unfolding needs view
+    still-open =
+        let a = done-allowed t (poll s) e in
+        let kind = ap (λ r. r .kind) (next-view t (poll s) e b tt .round) in
+        numbered .done-exactly polled diagnose .1 (after-sound t (poll s) b tt e, (λ none-open. a .1 .1 .0 (sym kind ∙ none-open), tt))
+
+    poll-shows : (reply polled diagnose .number ≡ 0) × (reply polled diagnose .third ≡ reply t (poll s) .first)
+    unfolding figuresOf needs
+    poll-shows =
+        let isSound = done-allowed t (poll s) e .0 in
+        let place = place-after (view t) (view polled) s (next-view t (poll s) e b tt) (is-sound t isSound) in
+        (still-open, reply-figures polled diagnose still-open .2 ∙ ap placeFigure place ∙ sym (reply-figures t (poll s) e .0))
+
+pub diagnose-exact : DiagnoseExact
+diagnose-exact =
+    record {
+      unsound = unsound;
+      idle = idle;
+      noOther = no-other;
+      commits = commits;
+      shows = shows;
+      found = found;
+      closing = closing;
+      nothing-polled = nothing-polled;
+      unheard = unheard;
+      then-gets = then-gets;
+      then-finishes = λ t e z. then-gets t e ∙ z;
+      book-kept = book-kept;
+      poll-shows = poll-shows;
+    }

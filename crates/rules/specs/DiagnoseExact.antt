@@ -1,0 +1,39 @@
+-- Diagnose is exact (document 02, 2026-04): "It is held to commit's own reply". On every table, sound or not, it gets 1 and 5 where commit does; everywhere
+-- else it replies 0, and its first figure is commit's own number. It changes no byte (`diagnose-changes-nothing` of Steps.antt), so that a commit right after
+-- it gets that number.
+use mathlib.Core.Path.{_≡_}
+use mathlib.Core.Logic.{_↔_, _⊎_}
+use Prim.Native.Nat.{ℕ, suc}
+use Rattle.basics.specs.Bytes.{AreBytes}
+use Rattle.layout.specs.View.{Table, view}
+use Rattle.rules.specs.Calls.{poll, commit, diagnose}
+use Rattle.rules.specs.Reply.{reply, after}
+use Rattle.rules.specs.Book.{Book, fed}
+use Rattle.rules.specs.Demand2.{Found}
+use Rattle.rules.specs.Steps.{Closing, Diagnosed}
+
+pub record DiagnoseExact : Type 0 where
+  -- "It gets 1 and 5 as commit does", and no other number but 0
+  pub unsound : (t : Table) → (reply t diagnose .number ≡ 1) ↔ (reply t commit .number ≡ 1)
+  pub idle : (t : Table) → (reply t diagnose .number ≡ 5) ↔ (reply t commit .number ≡ 5)
+  pub noOther : (t : Table) → (reply t diagnose .number ≡ 0) ⊎ ((reply t diagnose .number ≡ 1) ⊎ (reply t diagnose .number ≡ 5))
+  -- "the number commit would give now"
+  pub commits : (t : Table) → reply t diagnose .number ≡ 0 → reply t diagnose .first ≡ reply t commit .number
+  -- the same by quorums and counters; the station that gave the version and the read place, by quantifiers (Steps.antt says it of bytes)
+  pub shows : (t : Table) → reply t diagnose .number ≡ 0 → Diagnosed (view t) (reply t diagnose)
+  -- the station is that of what the round has found by version: where the commit would be done, its figures are made of that station's copy and of the one
+  -- found by generation; where nothing is polled it would get 8
+  pub found : (t : Table) → reply t diagnose .number ≡ 0 → (f : Found (view t)) → reply t diagnose .second ≡ suc (f .b)
+  pub closing : (t : Table) → reply t diagnose .number ≡ 0 → reply t diagnose .first ≡ 0
+      → (f : Found (view t)) × (reply t diagnose .second ≡ suc (f .b)) × Closing (view t) f (view t .round .kind) (reply t commit)
+  pub nothing-polled : (t : Table) → reply t diagnose .number ≡ 0 → reply t diagnose .second ≡ 0 → reply t diagnose .first ≡ 8
+  -- no read place is shown exactly if commit would get 8
+  pub unheard : (t : Table) → reply t diagnose .number ≡ 0 → (reply t diagnose .third ≡ 0) ↔ (reply t diagnose .first ≡ 8)
+  -- a commit right after it gets what it said; where it said 0, the commit is done
+  pub then-gets : (t : Table) → reply t diagnose .number ≡ 0 → reply (after t diagnose) commit .number ≡ reply t diagnose .first
+  pub then-finishes : (t : Table) → reply t diagnose .number ≡ 0 → reply t diagnose .first ≡ 0 → reply (after t diagnose) commit .number ≡ 0
+  -- the book stays as it was
+  pub book-kept : (b : Book) (number : ℕ) → fed b diagnose number ≡ b
+  -- on bytes, a diagnose right after a poll that is done is done, and shows the read place that the poll showed
+  pub poll-shows : (t : Table) (s : ℕ) → AreBytes t → reply t (poll s) .number ≡ 0
+      → (reply (after t (poll s)) diagnose .number ≡ 0) × (reply (after t (poll s)) diagnose .third ≡ reply t (poll s) .first)
