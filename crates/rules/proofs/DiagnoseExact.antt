@@ -1,12 +1,15 @@
 -- Diagnose is exact: its tests are commit's first two, and its figures those of the definition.
 use mathlib.Core.Path.{_≡_, refl, sym, ap, _∙_}
+use mathlib.Core.Bool.{true}
 use mathlib.Core.Logic.{_↔_, _⊎_, inl, inr}
 use Prim.Native.Nat.{ℕ, zero, suc}
 use native.Mathlib.Omega.{arith}
 use Rattle.basics.specs.Bytes.{AreBytes}
 use Rattle.basics.proofs.Tests.{clash, either}
 use Rattle.quorum.specs.Configurations.{placeFigure}
-use Rattle.layout.specs.View.{Table, view}
+use Rattle.layout.specs.View.{Table, view, own}
+use Rattle.layout.specs.Soundness.{sound}
+use Rattle.layout.proofs.Newer.{by-version}
 use Rattle.layout.proofs.Soundness.{is-sound}
 use Rattle.rules.specs.Calls.{poll, commit, diagnose}
 use Rattle.rules.specs.Rules.{isIdle}
@@ -15,13 +18,16 @@ use Rattle.rules.specs.After.{done}
 use Rattle.rules.specs.Reply.{replyOf, reply, after}
 use Rattle.rules.specs.Needs.{needs}
 use Rattle.rules.specs.Steps.{Closing, Diagnosed}
-use Rattle.rules.specs.DiagnoseExact.{DiagnoseExact}
+use Rattle.rules.specs.DiagnoseExact.{UpToDate, DiagnoseExact}
 use Rattle.rules.proofs.Judged.{numbered, idle-none, a-round}
 use Rattle.rules.specs.Demand2.{Found}
 use Rattle.rules.specs.Book.{Book, fed}
 use Rattle.rules.proofs.Quorums.{heard-exactly, heard-by}
-use Rattle.rules.proofs.Demand1.{reply-figures}
+use Rattle.rules.proofs.Demand1.{reply-figures, refusal-has-no-figures}
 use Rattle.rules.proofs.Demand2.{demand2}
+use Rattle.rules.proofs.Demand3.{after-lists}
+use Rattle.rules.proofs.Copies.{heard-current}
+use Rattle.rules.proofs.Book.{Follows}
 use Rattle.rules.proofs.Steps.{closing-step, place-after, diagnose-step}
 use Rattle.rules.proofs.Laws.{done-allowed, next-view}
 use Rattle.rules.proofs.Kept.{after-sound}
@@ -147,6 +153,28 @@ module _ (t : Table) where
         let place = place-after (view t) (view polled) s (next-view t (poll s) e b tt) (is-sound t isSound) in
         (still-open, reply-figures polled diagnose still-open .2 ∙ ap placeFigure place ∙ sym (reply-figures t (poll s) e .0))
 
+-- ---- a table that follows the book
+-- a figure says that it is done
+figured : (t : Table) (s : ℕ) → reply t diagnose .second ≡ suc s → reply t diagnose .number ≡ 0
+figured t s e = go (reply t diagnose .number) refl
+  where
+    go : (k : ℕ) → reply t diagnose .number ≡ k → reply t diagnose .number ≡ 0
+    go zero d = d
+    go (suc k) d = let z = refusal-has-no-figures t diagnose (λ q. let y : suc k ≡ 0 = sym d ∙ q in omega arith) .1 in absurd (omega arith)
+
+up-to-date : (t : Table) (b : Book) → AreBytes t → sound t ≡ true → Follows (view t) b → UpToDate t b
+unfolding view
+up-to-date t b bytes isSound inv s shown place =
+    let v = view t in
+    let i = v .round .item in
+    let polled = v .round .polled in
+    let told = shows t (figured t s shown) in
+    let f = is-sound t isSound in
+    let heard = heard-by v i polled .1 (told .place .heard .0 place) in
+    let now = heard-current (v .n) (own v) _ _ _ polled (inv .kept i (f .item)) (λ k l. f .configs i k (f .item) l) heard in
+    let its = by-version (own v) polled (v .n) s (told .station s .0 shown) in
+    (ap (λ c. c .value) (sym its) ∙ now .value, ap (λ c. c .version) (sym its) ∙ now .version)
+
 pub diagnose-exact : DiagnoseExact
 diagnose-exact =
     record {
@@ -161,6 +189,7 @@ diagnose-exact =
       unheard = unheard;
       then-gets = then-gets;
       then-finishes = λ t e z. then-gets t e ∙ z;
+      over-lists = after-lists UpToDate up-to-date;
       book-kept = book-kept;
       poll-shows = poll-shows;
     }

@@ -2,7 +2,7 @@
 -- heard: where all stations on the bus are not heard, no part of them is, and where they are, they give what is current.
 use mathlib.Core.Path.{_≡_, refl, sym, ap, _∙_}
 use mathlib.Core.Bool.{true, false}
-use mathlib.Core.List.{List, [], _∷_}
+use mathlib.Core.List.{List, _∷_}
 use mathlib.Core.Logic.{inl, ⊎-elim}
 use Prim.Native.Nat.{ℕ, zero, suc, _<_}
 use native.Mathlib.Omega.{arith}
@@ -20,12 +20,12 @@ use Rattle.layout.specs.View.{Table, State, view, onBus}
 use Rattle.layout.proofs.Soundness.{is-sound, sound-facts}
 use Rattle.layout.proofs.Held.{withRound}
 use Rattle.layout.proofs.Newer.{by-generation}
-use Rattle.rules.specs.Calls.{Call, lay, openRead, commit, abandon, reach}
+use Rattle.rules.specs.Calls.{openRead, commit, abandon, reach}
 use Rattle.rules.specs.Rules.{numberOf, refusals, tests}
 use Rattle.rules.specs.Figures.{figuresOf}
 use Rattle.rules.specs.Reply.{replyOf, reply, after}
-use Rattle.rules.specs.Lists.{replies, afterAll, AllPassable}
-use Rattle.rules.specs.Book.{Book, entry, step, fed, fedAll}
+use Rattle.rules.specs.Lists.{afterAll}
+use Rattle.rules.specs.Book.{Book, entry, step, fed}
 use Rattle.rules.specs.Needs.{needs}
 use Rattle.rules.specs.Steps.{SameCopies}
 use Rattle.rules.specs.Demand2.{QuorumIn, HeardBy}
@@ -37,8 +37,8 @@ use Rattle.rules.proofs.Copies.{heard-current, heard-grows}
 use Rattle.rules.proofs.Book.{Follows}
 use Rattle.rules.proofs.Steps.{three}
 use Rattle.rules.proofs.Laws.{done-allowed, done-step, bytes-kept}
-use Rattle.rules.proofs.Kept.{after-sound, stays-sound}
-use Rattle.rules.proofs.Demand3.{goes-on, begins}
+use Rattle.rules.proofs.Kept.{after-sound}
+use Rattle.rules.proofs.Demand3.{goes-on, after-lists}
 use Rattle.rules.proofs.OnTheBus.{allHeard, canWrite, no-write-told, reads-told, zero-told, reach-figure, read-shows, asks-read}
 use Rattle.rules.proofs.OnTheBus.{exact-hears, exact-reads, exact-writes, exact-changes}
 use Rattle.rules.proofs.Alike.{alike-tables}
@@ -151,16 +151,7 @@ over-lists t b bytes s inv =
       reads-after-abandon = reads-after-abandon t b bytes s inv;
     }
 
--- ---- after every list of calls
-follows-all : (t : Table) (b : Book) (calls : List Call) → AreBytes t → AllPassable calls → sound t ≡ true → Follows (view t) b
-    → OverLists (afterAll t calls) (fedAll b calls (replies t calls))
-unfolding afterAll replies
-follows-all t b [] h p s inv = over-lists t b h s inv
-follows-all t b (c ∷ calls) h p s inv =
-    follows-all (after t c) (fed b c (reply t c .number)) calls (bytes-kept t c h (p .0)) (p .1) (stays-sound t c h (p .0) s) (goes-on t b c h (p .0) inv)
-
 pub reach-exact : ReachExact
-unfolding afterAll replies fed
 reach-exact =
     record {
       any-round = any-round;
@@ -169,8 +160,5 @@ reach-exact =
       writes = λ t i value order places b p e all everywhere. exact-writes t b i order all value p e places everywhere;
       changes = λ t i target order places others b p e all everywhere elsewhere.
           exact-changes t b i order all target p e places others everywhere elsewhere;
-      over-lists = λ t b n m value config calls h p e.
-          let c = lay n m value config in
-          follows-all (after t c) (fed b c (reply t c .number)) calls (bytes-kept t c h (p .0)) (p .1) (after-sound t c h (p .0) e)
-          (rw e (begins t b n m value config h (p .0) e));
+      over-lists = after-lists OverLists over-lists;
     }

@@ -1,16 +1,23 @@
 -- Diagnose is exact (document 02, 2026-04): "It is held to commit's own reply". On every table, sound or not, it gets 1 and 5 where commit does; everywhere
 -- else it replies 0, and its first figure is commit's own number. It changes no byte (`diagnose-changes-nothing` of Steps.antt), so that a commit right after
--- it gets that number.
+-- it gets that number. Over every list of demand 3 the station shown in a heard round has the current reading.
 use mathlib.Core.Path.{_≡_}
 use mathlib.Core.Logic.{_↔_, _⊎_}
-use Prim.Native.Nat.{ℕ, suc}
+use mathlib.Core.List.{List, _∷_}
+use Prim.Native.Nat.{ℕ, suc, _≤_}
 use Rattle.basics.specs.Bytes.{AreBytes}
-use Rattle.layout.specs.View.{Table, view}
-use Rattle.rules.specs.Calls.{poll, commit, diagnose}
+use Rattle.layout.specs.View.{Table, view, own}
+use Rattle.rules.specs.Calls.{Call, lay, poll, commit, diagnose}
 use Rattle.rules.specs.Reply.{reply, after}
-use Rattle.rules.specs.Book.{Book, fed}
+use Rattle.rules.specs.Lists.{replies, afterAll, AllPassable}
+use Rattle.rules.specs.Book.{Book, entry, fed, fedAll}
 use Rattle.rules.specs.Demand2.{Found}
 use Rattle.rules.specs.Steps.{Closing, Diagnosed}
+
+-- where a read place is shown, the copy at the station shown is up to date: it has the value and the writes that the book has for the round's item
+abbrev pub UpToDate : Table → Book → Type 0
+UpToDate t b = (s : ℕ) → reply t diagnose .second ≡ suc s → 1 ≤ reply t diagnose .third
+    → (own (view t) s .value ≡ entry (b .items) (view t .round .item) .value) × (own (view t) s .version ≡ entry (b .items) (view t .round .item) .writes)
 
 pub record DiagnoseExact : Type 0 where
   -- "It gets 1 and 5 as commit does", and no other number but 0
@@ -32,6 +39,10 @@ pub record DiagnoseExact : Type 0 where
   -- a commit right after it gets what it said; where it said 0, the commit is done
   pub then-gets : (t : Table) → reply t diagnose .number ≡ 0 → reply (after t diagnose) commit .number ≡ reply t diagnose .first
   pub then-finishes : (t : Table) → reply t diagnose .number ≡ 0 → reply t diagnose .first ≡ 0 → reply (after t diagnose) commit .number ≡ 0
+  -- over every list of demand 3, refused calls and further lays included, whatever the book held before it
+  pub over-lists : (t : Table) (b : Book) (n m value : ℕ) (config : List ℕ) (calls : List Call)
+      → AreBytes t → AllPassable (lay n m value config ∷ calls) → reply t (lay n m value config) .number ≡ 0
+      → UpToDate (afterAll t (lay n m value config ∷ calls)) (fedAll b (lay n m value config ∷ calls) (replies t (lay n m value config ∷ calls)))
   -- the book stays as it was
   pub book-kept : (b : Book) (number : ℕ) → fed b diagnose number ≡ b
   -- on bytes, a diagnose right after a poll that is done is done, and shows the read place that the poll showed
