@@ -151,11 +151,28 @@ static inline bool valid(configuration c, uint64_t n)
     return any(apart) == 0;
 }
 
+/* The highest bits of the lanes whose sets are used and held by the stations. */
+static inline side held(uint64_t stations, side s)
+{
+    uint64_t lacking = ~(stations * ONES);
+    return (side){used(s.low) & ~used(s.low & lacking), used(s.high) & ~used(s.high & lacking)};
+}
+
 /* Whether the stations hold a used set of the side. */
 static inline bool holds(uint64_t stations, side s)
 {
-    uint64_t lacking = ~(stations * ONES);
-    return ((used(s.low) & ~used(s.low & lacking)) | (used(s.high) & ~used(s.high & lacking))) != 0;
+    side h = held(stations, s);
+    return (h.low | h.high) != 0;
+}
+
+/* One plus the first place of the side that the stations hold, or 0. */
+static inline uint64_t first_held(uint64_t stations, side s)
+{
+    side h = held(stations, s);
+    if (h.low != 0) {
+        return 1 + (uint64_t)__builtin_ctzll(h.low) / 16;
+    }
+    return h.high == 0 ? 0 : 5 + (uint64_t)__builtin_ctzll(h.high) / 16;
 }
 
 static inline uint64_t difference(configuration a, configuration b)
@@ -425,16 +442,18 @@ ospreyscreen_reply opt_poll(uint8_t *table, size_t len, uint64_t station)
     }
     uint64_t polled = h.polled | UINT64_C(1) << station;
     set_pair(table + 6, polled);
-    return done(heard(item_copies(table, &h, h.item), polled) != NULL, 0, 0);
+    const uint8_t *found = newest(item_copies(table, &h, h.item), polled, GENERATION);
+    return done(first_held(polled, get_configuration(found + CONFIGURATION).read), 0, 0);
 }
 
-/* Whether the counter that the round raises is at its end. */
-static inline bool spent(const head *h, const uint8_t *copies, const uint8_t *found)
+/* Whether the counter that a put of the sort is to raise is at its end. A data
+ * put of a change raises none. */
+static inline bool put_spent(const head *h, uint64_t sort, const uint8_t *copies, const uint8_t *found)
 {
     if (h->round == OSPREYSCREEN_ROUND_WRITE) {
         return get_word(newest(copies, h->polled, VERSION) + VERSION) == UINT64_MAX;
     }
-    return h->round == OSPREYSCREEN_ROUND_CHANGE && get_word(found + GENERATION) == UINT64_MAX;
+    return sort == OSPREYSCREEN_PUT_CONFIGURATION && get_word(found + GENERATION) == UINT64_MAX;
 }
 
 ospreyscreen_reply opt_put(uint8_t *table, size_t len, uint64_t station, uint64_t sort)
@@ -462,8 +481,7 @@ ospreyscreen_reply opt_put(uint8_t *table, size_t len, uint64_t station, uint64_
     if (h.round <= sort) {
         return refused(OSPREYSCREEN_WRONG_PUT);
     }
-    /* A data put of a change raises no counter. */
-    if (h.round == sort + 1 && spent(&h, copies, found)) {
+    if (put_spent(&h, sort, copies, found)) {
         return refused(OSPREYSCREEN_SPENT);
     }
     uint64_t puts = sort == OSPREYSCREEN_PUT_DATA ? h.data_puts : h.configuration_puts;
@@ -504,6 +522,18 @@ static inline bool enough_puts(const head *h, configuration found)
     }
 }
 
+/* The number of a commit of a heard round, by the newest copies. */
+static inline uint64_t closing_number(const head *h, const uint8_t *data, const uint8_t *found)
+{
+    bool last = (h->round == OSPREYSCREEN_ROUND_WRITE && get_word(data + VERSION) == UINT64_MAX) ||
+                (h->round == OSPREYSCREEN_ROUND_CHANGE && get_word(found + GENERATION) == UINT64_MAX);
+    if (last) {
+        return OSPREYSCREEN_SPENT;
+    }
+    return enough_puts(h, get_configuration(found + CONFIGURATION)) ? OSPREYSCREEN_DONE
+                                                                    : OSPREYSCREEN_SHORT;
+}
+
 ospreyscreen_reply opt_commit(uint8_t *table, size_t len)
 {
     head h;
@@ -519,15 +549,13 @@ ospreyscreen_reply opt_commit(uint8_t *table, size_t len)
     if (found == NULL) {
         return refused(OSPREYSCREEN_UNHEARD);
     }
-    if (spent(&h, copies, found)) {
-        return refused(OSPREYSCREEN_SPENT);
-    }
-    if (!enough_puts(&h, get_configuration(found + CONFIGURATION))) {
-        return refused(OSPREYSCREEN_SHORT);
+    const uint8_t *data = newest(copies, h.polled, VERSION);
+    uint64_t number = closing_number(&h, data, found);
+    if (number != OSPREYSCREEN_DONE) {
+        return refused(number);
     }
     bool write = h.round == OSPREYSCREEN_ROUND_WRITE;
     bool change = h.round == OSPREYSCREEN_ROUND_CHANGE;
-    const uint8_t *data = newest(copies, h.polled, VERSION);
     uint64_t version = get_word(data + VERSION) + write;
     uint64_t value = write ? h.value : get_word(data + VALUE);
     uint64_t generation = get_word(found + GENERATION) + change;
@@ -589,4 +617,25 @@ ospreyscreen_reply opt_reach(const uint8_t *table, size_t len, uint64_t item)
     }
     bool writable = holds(on, get_configuration(found + CONFIGURATION).write);
     return done(writable ? OSPREYSCREEN_REACH_READ_AND_WRITE : OSPREYSCREEN_REACH_READ, 0, 0);
+}
+
+ospreyscreen_reply opt_diagnose(const uint8_t *table, size_t len)
+{
+    head h;
+
+    if (!read_sound(&h, table, len)) {
+        return refused(OSPREYSCREEN_UNSOUND);
+    }
+    if (h.round == OSPREYSCREEN_ROUND_NONE) {
+        return refused(OSPREYSCREEN_IDLE);
+    }
+    if (h.polled == 0) {
+        return done(OSPREYSCREEN_UNHEARD, 0, 0);
+    }
+    const uint8_t *copies = table + item_start(&h, h.item);
+    const uint8_t *data = newest(copies, h.polled, VERSION);
+    const uint8_t *found = newest(copies, h.polled, GENERATION);
+    uint64_t place = first_held(h.polled, get_configuration(found + CONFIGURATION).read);
+    uint64_t number = place == 0 ? OSPREYSCREEN_UNHEARD : closing_number(&h, data, found);
+    return done(number, 1 + (uint64_t)(data - copies) / COPY, place);
 }

@@ -113,6 +113,8 @@ static ospreyscreen_reply make_call(runner *r, const uint8_t *frame)
         return opt_link(r->table, r->len, frame[1], frame[2]);
     case OSPREYSCREEN_REACH:
         return opt_reach(r->table, r->len, frame[1]);
+    case OSPREYSCREEN_DIAGNOSE:
+        return opt_diagnose(r->table, r->len);
     default: /* a call that this runner has not been taught */
         abort();
     }

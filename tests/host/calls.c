@@ -101,12 +101,19 @@ static const void *make_reach(const implementation *with, const call *c,
     return AS(one_number, with->reach)(REPLY_AND_TABLE, c->numbers[ARGUMENT_ITEM]);
 }
 
+static const void *make_diagnose(const implementation *with, const call *c,
+                                 const loan lent[LENT_KINDS])
+{
+    (void)c;
+    return AS(no_number, with->diagnose)(REPLY_AND_TABLE);
+}
+
 /* ---- The rows ---- */
 
 #define GIVES(number) (1u << OSPREYSCREEN_##number)
 #define OPENING_GIVES (GIVES(DONE) | GIVES(UNSOUND) | GIVES(NO_SUCH_THING) | GIVES(BUSY))
 
-/* The numbers are those of document 01's table, by call. */
+/* The numbers are those of document 01's table, by call, and document 02's. */
 const call_shape CALLS[CALL_COUNT] = {
     {OSPREYSCREEN_LAY, "lay",
      4, {ARGUMENT_N, ARGUMENT_M, ARGUMENT_VALUE, ARGUMENT_CONFIGURATION},
@@ -144,6 +151,9 @@ const call_shape CALLS[CALL_COUNT] = {
     {OSPREYSCREEN_REACH, "reach",
      1, {ARGUMENT_ITEM},
      GIVES(DONE) | GIVES(UNSOUND) | GIVES(NO_SUCH_THING), OSPREYSCREEN_ROUND_NONE, make_reach},
+    {OSPREYSCREEN_DIAGNOSE, "diagnose",
+     0, {0},
+     GIVES(DONE) | GIVES(UNSOUND) | GIVES(IDLE), OSPREYSCREEN_ROUND_NONE, make_diagnose},
 };
 
 const call_shape *call_of(int code)

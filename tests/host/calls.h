@@ -133,6 +133,11 @@ static inline call call_reach(uint64_t item)
     return c;
 }
 
+static inline call call_diagnose(void)
+{
+    return (call){.code = OSPREYSCREEN_DIAGNOSE};
+}
+
 /* An implementation's functions, so that a program can drive any of them. */
 typedef struct {
     const char *name;
@@ -146,14 +151,15 @@ typedef struct {
     ospreyscreen_reply (*abandon)(uint8_t *, size_t);
     ospreyscreen_reply (*link)(uint8_t *, size_t, uint64_t, uint64_t);
     ospreyscreen_reply (*reach)(const uint8_t *, size_t, uint64_t);
+    ospreyscreen_reply (*diagnose)(const uint8_t *, size_t);
 } implementation;
 
-/* An implementation's table, from the prefix of its ten functions. */
+/* An implementation's table, from the prefix of its functions. */
 #define IMPLEMENTATION(name, prefix)                                                           \
     {                                                                                          \
         name, prefix##lay, prefix##open_read, prefix##open_write, prefix##open_change,         \
             prefix##poll, prefix##put, prefix##commit, prefix##abandon, prefix##link,          \
-            prefix##reach                                                                      \
+            prefix##reach, prefix##diagnose                                                    \
     }
 
 typedef struct {
@@ -167,7 +173,7 @@ typedef struct {
     const void *(*make)(const implementation *, const call *, const loan lent[LENT_KINDS]);
 } call_shape;
 
-enum { CALL_COUNT = 10, CALL_CODES = 1 + CALL_COUNT };
+enum { CALL_COUNT = 11, CALL_CODES = 1 + CALL_COUNT };
 extern const call_shape CALLS[CALL_COUNT];
 
 /* The row of the code, or a null pointer. */

@@ -185,6 +185,13 @@ static void lay(generator *g, uint64_t n, uint64_t m, const uint8_t *config, siz
     make(g, c);
 }
 
+/* A diagnose, and the commit that it tells of. */
+static void ask_and_commit(generator *g)
+{
+    make(g, call_diagnose());
+    make(g, call_commit());
+}
+
 /* ---- Sizes ---- */
 
 static void write_round(generator *g, unsigned n, unsigned item)
@@ -192,14 +199,14 @@ static void write_round(generator *g, unsigned n, unsigned item)
     make(g, call_open_write(item, rng_next(&g->source)));
     poll_all(g, n);
     put_all(g, n, OSPREYSCREEN_PUT_DATA);
-    make(g, call_commit());
+    ask_and_commit(g);
 }
 
 static void read_round(generator *g, unsigned n, unsigned item)
 {
     make(g, call_open_read(item));
     poll_all(g, n);
-    make(g, call_commit());
+    ask_and_commit(g);
 }
 
 /* A change to the target with both puts at every station. */
@@ -208,7 +215,7 @@ static void change_round(generator *g, unsigned n, unsigned item, const uint8_t 
     open_change(g, item, target, CONFIGURATION);
     poll_all(g, n);
     put_both(g, n);
-    make(g, call_commit());
+    ask_and_commit(g);
 }
 
 /* Every n and m: laid, linked, and a round of each kind on the last item. */
@@ -596,6 +603,7 @@ static void many_refusals(generator *g, uint64_t index)
     calls_at_items(g, n, 2);
     call_on_scene(g, call_commit());
     call_on_scene(g, call_abandon());
+    call_on_scene(g, call_diagnose());
 }
 
 /* ---- Copies ---- */
@@ -628,7 +636,8 @@ static void look_at_copies(generator *g)
         if (kind == OSPREYSCREEN_ROUND_CHANGE) {
             set_set(scene + PUTS_AT, all_stations(n));
         }
-        call_on_scene(g, call_commit());
+        set_scene(g);
+        ask_and_commit(g);
     }
     damage_round(&g->source, scene, OSPREYSCREEN_ROUND_NONE);
     set_scene(g);
@@ -713,9 +722,58 @@ static void spent_counters(generator *g, uint64_t index)
         set_scene(g);
         make(g, call_put(rng_below(r, n), OSPREYSCREEN_PUT_DATA));
         make(g, call_put(rng_below(r, n), OSPREYSCREEN_PUT_CONFIGURATION));
-        make(g, call_commit());
+        ask_and_commit(g);
     }
     look_at_copies(g);
+}
+
+/* ---- Read places ---- */
+
+/* Majorities of n stations, this one at its place and in some behind it; those
+ * in front have another station each. */
+static void one_place_held(rng *r, unsigned n, unsigned place, uint8_t *config)
+{
+    unsigned set;
+
+    configuration_majorities(r, n, config);
+    set = configuration_set(config, READ_SIDE + place);
+    for (unsigned other = 0; other < PLACES; other++) {
+        unsigned old = configuration_set(config, READ_SIDE + other);
+        if (other < place && (old & ~set) == 0) {
+            configuration_set_to(config, READ_SIDE + other, old | 1u << station_of(r, all_stations(n) & ~set));
+        }
+        if (other > place && rng_one_in(r, 2)) {
+            configuration_set_to(config, READ_SIDE + other, set);
+        }
+    }
+}
+
+/* Every place as the first that is held, in each kind of round: by all stations
+ * of its set, by all but one, and by more. */
+static void one_place(generator *g, uint64_t index)
+{
+    rng *r = &g->source;
+    unsigned n = 3 + (unsigned)index / PLACES;
+    unsigned place = (unsigned)index % PLACES;
+    uint8_t config[CONFIGURATION];
+
+    begin(g, n, 1);
+    one_place_held(r, n, place, config);
+    for (unsigned station = 0; station < n; station++) {
+        memcpy(scene_copy(0, station) + CONFIGURATION_IN, config, CONFIGURATION);
+    }
+    unsigned set = configuration_set(config, READ_SIDE + place);
+    for (unsigned kind = OSPREYSCREEN_ROUND_READ; kind <= OSPREYSCREEN_ROUND_CHANGE; kind++) {
+        damage_round(r, scene, kind);
+        set_set(scene + DATA_AT, 0);
+        set_set(scene + PUTS_AT, 0);
+        set_set(scene + POLLED_AT, set & (set - 1));
+        call_on_scene(g, call_diagnose());
+        make(g, call_poll((unsigned)__builtin_ctz(set)));
+        make(g, call_diagnose());
+        make(g, call_poll(rng_below(r, n)));
+        make(g, call_diagnose());
+    }
 }
 
 /* ---- Rounds ---- */
@@ -750,7 +808,8 @@ static void every_put_set(generator *g, uint64_t index)
         for (unsigned config = 0; config <= all_stations(N); config++) {
             set_set(scene + DATA_AT, data);
             set_set(scene + PUTS_AT, kind == OSPREYSCREEN_ROUND_CHANGE ? config : 0);
-            call_on_scene(g, call_commit());
+            set_scene(g);
+            ask_and_commit(g);
         }
     }
 }
@@ -1022,6 +1081,7 @@ static const group GROUPS[] = {
     {spent_counters, (uint64_t)9 * STATIONS},
     {one_counter, (uint64_t)27 * 16},
     {one_tie, (uint64_t)STATIONS * STATIONS * (STATIONS - 1)},
+    {one_place, (uint64_t)PLACES * (STATIONS - 2)},
     {every_off_set, 80},
     {every_put_set, 40},
     {one_pair, (uint64_t)PLACES * PLACES * (STATIONS - 1)},

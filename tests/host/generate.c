@@ -306,6 +306,10 @@ call generate_call(generator *g)
         return leave(g, &o);
     case 9: /* a commit before its time */
         return call_commit();
+    case 10:
+    case 11:
+    case 12:
+        return call_diagnose();
     default:
         return next_step(g, &o);
     }

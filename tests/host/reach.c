@@ -100,7 +100,7 @@ static const char *hold_to_read(attempt *a)
 
     begin(a);
     open_read(a);
-    a->as_said &= poll_all(a, a->on) == readable;
+    a->as_said &= (poll_all(a, a->on) != 0) == readable;
     ospreyscreen_reply end = commit(a, readable ? OSPREYSCREEN_DONE : OSPREYSCREEN_UNHEARD);
     if (!a->as_said) {
         return "a read of all stations on the bus differs from the reach";

@@ -21,6 +21,7 @@ ospreyscreen_reply ref_commit(uint8_t *table, size_t len);
 ospreyscreen_reply ref_abandon(uint8_t *table, size_t len);
 ospreyscreen_reply ref_link(uint8_t *table, size_t len, uint64_t station, uint64_t state);
 ospreyscreen_reply ref_reach(const uint8_t *table, size_t len, uint64_t item);
+ospreyscreen_reply ref_diagnose(const uint8_t *table, size_t len);
 
 /* What makes a configuration false: document 01's clauses, by side. */
 enum {

@@ -269,7 +269,7 @@ static call slip(season *s, const outlook *o)
  * it falls between any two steps of a round. */
 static ospreyscreen_reply make(season *s, call c)
 {
-    enum { REACHES = 25 };
+    enum { REACHES = 25, DIAGNOSES = 25 };
 
     move_stations(s);
     if (rng_one_in(s->r, s->weather->sections)) {
@@ -280,6 +280,9 @@ static ospreyscreen_reply make(season *s, call c)
     }
     if (rng_one_in(s->r, REACHES)) {
         record(s, call_reach(choose_item(s)));
+    }
+    if (rng_one_in(s->r, DIAGNOSES)) {
+        record(s, call_diagnose());
     }
     if (rng_one_in(s->r, s->weather->slips)) {
         outlook o = look(s);
@@ -477,8 +480,8 @@ static bool open_round(season *s, call opening)
 }
 
 /* Opens a round and takes it to its commit. If that is short, since puts are
- * gone with their stations, the task polls and goes on. In the end it gives
- * up, or hangs. */
+ * gone with their stations, the task may ask what holds the round up; it polls
+ * and goes on. In the end it gives up, or hangs. */
 static void play_round(season *s, task *t, call opening)
 {
     enum { ATTEMPTS = 3 };
@@ -490,6 +493,9 @@ static void play_round(season *s, task *t, call opening)
         uint64_t number = make(s, call_commit()).number;
         if (number == OSPREYSCREEN_DONE || number == OSPREYSCREEN_IDLE) {
             return;
+        }
+        if (rng_one_in(s->r, 2)) {
+            make(s, call_diagnose());
         }
         make(s, call_poll(rng_below(s->r, look(s).n)));
     }

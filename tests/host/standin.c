@@ -53,3 +53,8 @@ ospreyscreen_reply ospreyscreen_reach(const uint8_t *table, size_t len, uint64_t
 {
     return opt_reach(table, len, item);
 }
+
+ospreyscreen_reply ospreyscreen_diagnose(const uint8_t *table, size_t len)
+{
+    return opt_diagnose(table, len);
+}

@@ -34,6 +34,16 @@ static const meter_row METERS[MET_COUNT] = {
     [MET_REACH_HELD] = {"reaches held to rounds on copies of the table", LISTS},
     [MET_REACH_PARTS] = {"reaches of 0 where no part of the stations on the bus is heard", LISTS},
     [MET_REACH_SPENT] = {"reaches of 1 or 3 with the version spent", BY_HAND},
+    [MET_DIAGNOSE_DONE] = {"diagnoses: commit would get 0, done", ALL},
+    [MET_DIAGNOSE_UNHEARD] = {"diagnoses: commit would get 8, unheard", ALL},
+    [MET_DIAGNOSE_SPENT] = {"diagnoses: commit would get 10, spent", BY_HAND},
+    [MET_DIAGNOSE_SHORT] = {"diagnoses: commit would get 11, short", ALL},
+    [MET_DIAGNOSE_APART] = {"diagnoses where version and generation are of two stations", ALL},
+    [MET_DIAGNOSE_TIE] = {"diagnoses that found a tie by version, values different", BY_HAND},
+    [MET_DIAGNOSE_GONE] = {"diagnoses where the station that gave the version is off", ALL},
+    [MET_DIAGNOSE_LATER_SET] = {"diagnoses where a later read set is held too", ALL},
+    [MET_DIAGNOSE_HELD] = {"diagnoses held to a commit on a copy of the table", LISTS},
+    [MET_DIAGNOSE_BOOK] = {"diagnoses of a heard round whose station has the book's reading", LISTS},
     [MET_DISJOINT_MOVE] = {"changes to disjoint stations", ALL},
     [MET_MISSING_MOVE] = {"changes where every old write set misses every new read set", ALL},
     [MET_STALE_POLL] = {"polls of a copy older than one polled before", ALL},
@@ -112,8 +122,9 @@ static void look_at_ties(sight *s, const outlook *o, const call *c)
 {
     if (o->polled != 0) {
         s->met[MET_GENERATION_TIE] = outlook_tie(o, o->item, o->polled, COUNTER_GENERATION);
-        s->met[MET_VERSION_TIE] = c->code == OSPREYSCREEN_COMMIT &&
-                                  outlook_tie(o, o->item, o->polled, COUNTER_VERSION);
+        bool tie = outlook_tie(o, o->item, o->polled, COUNTER_VERSION);
+        s->met[MET_VERSION_TIE] = c->code == OSPREYSCREEN_COMMIT && tie;
+        s->met[MET_DIAGNOSE_TIE] = c->code == OSPREYSCREEN_DIAGNOSE && tie;
     }
 }
 
@@ -191,6 +202,27 @@ static void look_at_reach(sight *s, const outlook *o, const call *c)
     s->met[MET_REACH_LEFT_BY_HAND] = !s->covered && left;
 }
 
+/* Which stations gave version and generation, and how many read sets of the
+ * configuration found are held. */
+static void look_at_diagnose(sight *s, const outlook *o)
+{
+    const uint8_t *data = outlook_newest(o, o->item, o->polled, COUNTER_VERSION);
+    const uint8_t *found = outlook_newest(o, o->item, o->polled, COUNTER_GENERATION);
+    unsigned held = 0;
+
+    if (found == NULL) {
+        return;
+    }
+    for (unsigned place = 0; place < PLACES; place++) {
+        unsigned set = configuration_set(found + CONFIGURATION_IN, READ_SIDE + place);
+        held += set != 0 && (set & ~o->polled) == 0;
+    }
+    unsigned station = (unsigned)(data - outlook_copy(o, o->item, 0)) / COPY;
+    s->met[MET_DIAGNOSE_APART] = data != found;
+    s->met[MET_DIAGNOSE_GONE] = (o->off >> station & 1) != 0;
+    s->met[MET_DIAGNOSE_LATER_SET] = held > 1;
+}
+
 sight tally_look(const tally *t, const call *c, const loan *table, bool covered)
 {
     sight s = {.covered = covered};
@@ -218,6 +250,9 @@ sight tally_look(const tally *t, const call *c, const loan *table, bool covered)
     case OSPREYSCREEN_REACH:
         look_at_reach(&s, &o, c);
         break;
+    case OSPREYSCREEN_DIAGNOSE:
+        look_at_diagnose(&s, &o);
+        break;
     default:
         break;
     }
@@ -229,6 +264,17 @@ sight tally_look(const tally *t, const call *c, const loan *table, bool covered)
 
 /* ---- Counting ---- */
 
+static void count_diagnose(tally *t, const ospreyscreen_reply *reply)
+{
+    t->met[MET_DIAGNOSE_DONE] += reply->first == OSPREYSCREEN_DONE;
+    t->met[MET_DIAGNOSE_UNHEARD] += reply->first == OSPREYSCREEN_UNHEARD;
+    t->met[MET_DIAGNOSE_SPENT] += reply->first == OSPREYSCREEN_SPENT;
+    t->met[MET_DIAGNOSE_SHORT] += reply->first == OSPREYSCREEN_SHORT;
+    t->stations[reply->second]++;
+    t->places[reply->third]++;
+}
+
+/* The reply is the reference's too, so that its figures are in range. */
 static void count_done(tally *t, const sight *s, const call *c, const ospreyscreen_reply *reply)
 {
     for (int m = 0; m < MET_COUNT; m++) {
@@ -236,6 +282,12 @@ static void count_done(tally *t, const sight *s, const call *c, const ospreyscre
     }
     if (c->code == OSPREYSCREEN_COMMIT) {
         t->commits[s->round][s->n]++;
+    }
+    if (c->code == OSPREYSCREEN_POLL) {
+        t->polls[reply->first]++;
+    }
+    if (c->code == OSPREYSCREEN_DIAGNOSE) {
+        count_diagnose(t, reply);
     }
     if (c->code == OSPREYSCREEN_REACH) {
         t->met[MET_REACH_NOTHING] += reply->first == OSPREYSCREEN_REACH_NOTHING;
@@ -375,11 +427,42 @@ static void print_commits(FILE *to, const tally *t)
     }
 }
 
+/* Replies by a figure that is one plus a station or a place, or 0. */
+typedef struct {
+    const char *name;
+    const uint64_t *replies;
+    int count;
+} by_figure;
+
+enum { BY_FIGURE = 3 };
+
+static void by_figures(const tally *t, by_figure rows[BY_FIGURE])
+{
+    rows[0] = (by_figure){"polls by read place", t->polls, PLACE_COUNTS};
+    rows[1] = (by_figure){"diagnoses by read place", t->places, PLACE_COUNTS};
+    rows[2] = (by_figure){"diagnoses by station", t->stations, STATION_COUNTS};
+}
+
+static void print_figures(FILE *to, const tally *t)
+{
+    by_figure rows[BY_FIGURE];
+
+    by_figures(t, rows);
+    for (int i = 0; i < BY_FIGURE; i++) {
+        fprintf(to, "%s, none first:", rows[i].name);
+        for (int figure = 0; figure < rows[i].count; figure++) {
+            fprintf(to, " %" PRIu64, rows[i].replies[figure]);
+        }
+        fprintf(to, "\n");
+    }
+}
+
 void tally_print(FILE *to, const tally *t, form f)
 {
     fprintf(to, "calls %" PRIu64 " in %" PRIu64 " lists\n", t->calls, t->lists);
     print_replies(to, t, f);
     print_commits(to, t);
+    print_figures(to, t);
     for (int m = 0; m < MET_COUNT; m++) {
         if (form_meets(f, m)) {
             fprintf(to, "%9" PRIu64 "  %s\n", t->met[m], METERS[m].name);
@@ -431,10 +514,27 @@ static bool met_commits(FILE *to, const tally *t)
     return all;
 }
 
+static bool met_figures(FILE *to, const tally *t)
+{
+    bool all = true;
+    by_figure rows[BY_FIGURE];
+
+    by_figures(t, rows);
+    for (int i = 0; i < BY_FIGURE; i++) {
+        for (int figure = 0; figure < rows[i].count; figure++) {
+            char which[32];
+            snprintf(which, sizeof which, ": figure %d", figure);
+            all &= met(to, rows[i].replies[figure], rows[i].name, which);
+        }
+    }
+    return all;
+}
+
 bool tally_met_all(FILE *to, const tally *t, form f)
 {
     bool all = met_numbers(to, t, f);
     all &= met_commits(to, t);
+    all &= met_figures(to, t);
     for (int m = 0; m < MET_COUNT; m++) {
         all &= !form_meets(f, m) || met(to, t->met[m], "", METERS[m].name);
     }

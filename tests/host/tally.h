@@ -11,7 +11,11 @@
 /* Where lists come from. */
 typedef enum { FORM_RANDOM, FORM_DIRECTED, FORM_SEASON, FORM_FRAMES, FORMS } form;
 
-enum { ROUND_KINDS = 4, STATION_COUNTS = 1 + OSPREYSCREEN_STATIONS_MAX };
+enum {
+    ROUND_KINDS = 4,
+    STATION_COUNTS = 1 + OSPREYSCREEN_STATIONS_MAX,
+    PLACE_COUNTS = 1 + OSPREYSCREEN_SETS_PER_SIDE
+};
 
 /* Things that happen, counted one by one; names and forms stand in tally.c. */
 typedef enum {
@@ -26,6 +30,16 @@ typedef enum {
     MET_REACH_HELD,
     MET_REACH_PARTS,
     MET_REACH_SPENT,
+    MET_DIAGNOSE_DONE,
+    MET_DIAGNOSE_UNHEARD,
+    MET_DIAGNOSE_SPENT,
+    MET_DIAGNOSE_SHORT,
+    MET_DIAGNOSE_APART,
+    MET_DIAGNOSE_TIE,
+    MET_DIAGNOSE_GONE,
+    MET_DIAGNOSE_LATER_SET,
+    MET_DIAGNOSE_HELD,
+    MET_DIAGNOSE_BOOK,
     MET_DISJOINT_MOVE,
     MET_MISSING_MOVE,
     MET_STALE_POLL,
@@ -56,6 +70,10 @@ typedef struct {
     uint64_t calls;
     uint64_t replies[CALL_CODES][REPLY_NUMBERS];
     uint64_t commits[ROUND_KINDS][STATION_COUNTS]; /* that finished, by kind and n */
+    /* Done polls by their figure, and done diagnoses by their second and third. */
+    uint64_t polls[PLACE_COUNTS];
+    uint64_t stations[STATION_COUNTS];
+    uint64_t places[PLACE_COUNTS];
     uint64_t alone[BROKEN_CLAUSES]; /* calls on a table that breaks this clause and no other */
     uint64_t met[MET_COUNT];
     /* Followed from call to call while the book covers the list. */

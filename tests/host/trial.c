@@ -1,5 +1,6 @@
 #include "trial.h"
 
+#include "diagnose.h"
 #include "reach.h"
 #include "watch.h"
 
@@ -69,6 +70,46 @@ static const char *hold_reach(const trial *t, const call *c, tally *counts)
     return reach_hold(t->tested.with, &said, counts);
 }
 
+/* What the tested implementation tells of the open round now. */
+static ospreyscreen_reply ask(const trial *t)
+{
+    const loan *table = &t->tested.lent[LENT_TABLE];
+    return t->tested.with->diagnose(table->bytes, table->len);
+}
+
+/* Holds a diagnose, done or refused, to a commit. */
+static const char *hold_diagnose(const trial *t, tally *counts)
+{
+    ospreyscreen_reply read = read_in_book(t, t->one_copy.noted_item);
+    diagnosed said = {.table = &t->tested.lent[LENT_TABLE],
+                      .told = &t->got,
+                      .book = t->covered ? &read : NULL};
+    return diagnose_hold(t->tested.with, &said, counts);
+}
+
+/* Holds what a poll shows to the diagnose after it, and a commit to the one
+ * before it, which told this. */
+static const char *hold_to_diagnose(const trial *t, const call *c, const ospreyscreen_reply *told,
+                                    tally *counts)
+{
+    ospreyscreen_reply now;
+
+    switch (c->code) {
+    case OSPREYSCREEN_DIAGNOSE:
+        return hold_diagnose(t, counts);
+    case OSPREYSCREEN_COMMIT:
+        return diagnose_foretells(told, &t->got) ? NULL : "a commit gets another number than diagnose told";
+    case OSPREYSCREEN_POLL:
+        now = ask(t);
+        return t->got.number != OSPREYSCREEN_DONE ||
+                       (now.number == OSPREYSCREEN_DONE && now.third == t->got.first)
+                   ? NULL
+                   : "a diagnose shows another read place than the poll before it";
+    default:
+        return NULL;
+    }
+}
+
 /* Makes the call in both runs and compares them; gives what is wrong, or a
  * null pointer. */
 static const char *compare_call(trial *t, const step *s, tally *counts)
@@ -108,18 +149,25 @@ static const char *compare_call(trial *t, const step *s, tally *counts)
     return NULL;
 }
 
-/* One call: compared, held to the book, and a reach to what it says. */
+/* One call: compared, held to the book, and a reach or a diagnose to what it
+ * says. */
 static const char *make_call(trial *t, const step *s, tally *counts)
 {
-    const char *wrong = compare_call(t, s, counts);
+    const call *c = &s->made;
+    ospreyscreen_reply told = {0};
 
+    if (c->code == OSPREYSCREEN_COMMIT) {
+        told = ask(t);
+    }
+    const char *wrong = compare_call(t, s, counts);
     if (wrong != NULL) {
         return wrong;
     }
-    if (!in_book(t, &s->made, counts)) {
+    if (!in_book(t, c, counts)) {
         return "a finished round differs from the book";
     }
-    return hold_reach(t, &s->made, counts);
+    wrong = hold_to_diagnose(t, c, &told, counts);
+    return wrong != NULL ? wrong : hold_reach(t, c, counts);
 }
 
 /* Does to both tables what the step says. */

@@ -111,15 +111,27 @@ static bool links(house *h, unsigned set)
     return reaches(h, OSPREYSCREEN_REACH_READ_AND_WRITE);
 }
 
-/* Polls the set's stations; the last one makes the round heard, and none
- * before it. */
-static bool polls(house *h, unsigned set)
+/* The place of a listed read set. */
+static unsigned read_place(const uint8_t *config, unsigned set)
 {
+    unsigned place = 0;
+    while (configuration_set(config, READ_SIDE + place) != set) {
+        place++;
+    }
+    return place;
+}
+
+/* Polls the stations of a listed read set. The last one makes the round heard,
+ * by this very set, since no other listed one lies within it; none before it
+ * does. */
+static bool polls(house *h, const uint8_t *config, unsigned set)
+{
+    uint64_t heard = 1 + read_place(config, set);
     for (; set != 0; set &= set - 1) {
         unsigned station = (unsigned)__builtin_ctz(set);
         ospreyscreen_reply reply = h->with->poll(h->table, h->len, station);
         bool last = (set & (set - 1)) == 0;
-        if (reply.number != OSPREYSCREEN_DONE || reply.first != last) {
+        if (reply.number != OSPREYSCREEN_DONE || reply.first != (last ? heard : 0)) {
             return false;
         }
     }
@@ -166,11 +178,11 @@ static const char *house_wrong(const implementation *with, const sheet *s, const
         return "linked stations do not reach what they should";
     }
     if (with->open_write(h.table, h.len, 0, VALUE).number != OSPREYSCREEN_DONE ||
-        !polls(&h, polled) || !puts_at(&h, put) || !commits(&h)) {
+        !polls(&h, config, polled) || !puts_at(&h, put) || !commits(&h)) {
         return "a write with the configuration goes wrong";
     }
     if (with->open_read(h.table, h.len, 0).number != OSPREYSCREEN_DONE ||
-        !polls(&h, polled_later) || !commits(&h)) {
+        !polls(&h, config, polled_later) || !commits(&h)) {
         return "a read with the configuration goes wrong";
     }
     return NULL;
