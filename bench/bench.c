@@ -140,6 +140,13 @@ static uint64_t reach(const implementation *with, scene *s)
     return reply.number | (reply.first ^ OSPREYSCREEN_REACH_READ_AND_WRITE);
 }
 
+/* Its number is 0 whatever commit would get; so that is joined to it. */
+static uint64_t diagnose(const implementation *with, scene *s)
+{
+    ospreyscreen_reply reply = with->diagnose(s->table, s->len);
+    return reply.number | reply.first;
+}
+
 static uint64_t links(const implementation *with, scene *s)
 {
     uint64_t numbers = 0;
@@ -280,6 +287,9 @@ static const row ROWS[] = {
     {"link", nothing, link_last, NOTHING, OSPREYSCREEN_DONE},
     {"reach", nothing, reach, NOTHING, OSPREYSCREEN_DONE},
     {"reach, stations off", drops, reach, NOTHING, OSPREYSCREEN_DONE},
+    {"diagnose", write_to_commit, diagnose, NOTHING, OSPREYSCREEN_DONE},
+    {"diagnose, short", write_to_puts, diagnose, NOTHING, OSPREYSCREEN_SHORT},
+    {"diagnose, unheard", open_write, diagnose, NOTHING, OSPREYSCREEN_UNHEARD},
     {"read round", nothing, read_round, NOTHING, OSPREYSCREEN_DONE},
     {"write round", nothing, write_round, NOTHING, OSPREYSCREEN_DONE},
     {"change round", nothing, change_round, HEAD_AND_ITEM, OSPREYSCREEN_DONE},

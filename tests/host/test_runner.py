@@ -22,7 +22,8 @@ LINKS = ["090001", "090101", "090201"]
 READ_500 = "0700F40100000000000000000000000000000000000000000000"
 
 # The frame case of document 01 after a link of each station, then a write of
-# 510 through stations 0 and 1 and a read through stations 1 and 2.
+# 510 through stations 0 and 1 and a read through stations 1 and 2, which are
+# read place 2.
 EXAMPLE_REPLIES = [
     "01" + "0" * 50,
     "09" + "0" * 50,
@@ -41,7 +42,7 @@ EXAMPLE_REPLIES = [
     "0700FE010000000000000100000000000000" + "0" * 16,
     "0200" + "0" * 48,
     "0500" + "0" * 48,
-    "050001" + "0" * 46,
+    "050003" + "0" * 46,
     "0700FE010000000000000100000000000000" + "0" * 16,
 ]
 
@@ -50,7 +51,7 @@ FALSE_LINES = [
     (b"", "00"), (b"0", "00"), (b"7", "00"), (b" 07", "00"), (b"07 ", "07"), (b"07\r", "07"),
     (b"\r", "00"), (b"\0", "00"), (b"07\0", "07"), (b"0700", "07"), (b"0", "00"), (b"05", "05"),
     (b"0500F", "05"), (b"050", "05"), (b"050001", "05"), (b"0a00", "00"), (b"0A0g", "0A"),
-    (b"0A", "0A"), (b"0B", "0B"), (b"00", "00"), (b"FF", "FF"), (b"fF", "00"), (b"F0F0", "F0"),
+    (b"0A", "0A"), (b"0B00", "0B"), (b"0C", "0C"), (b"0C00", "0C"), (b"00", "00"), (b"FF", "FF"), (b"fF", "00"), (b"F0F0", "F0"),
     (b"GG", "00"), (b"0x05", "00"), (b"05\t0", "05"), (b"\xff07", "00"), (LAY.encode()[:-2], "01"),
     (LAY.encode() + b"00", "01"), (LAY.encode() + b"0", "01"), (LAY.encode().lower(), "01"),
     (b"0" * 100000, "00"), (b"07" * 50001, "07"), (b"F" * 65536, "FF"), (b"A" * 65537, "AA"),
@@ -58,11 +59,11 @@ FALSE_LINES = [
 
 # One frame of each call but lay.
 OTHER_CALLS = ["0200", "0300" + "0" * 16, "0400" + PAIRS + PAIRS, "0500", "060001", "07", "08",
-               "090001", "0A00"]
+               "090001", "0A00", "0B"]
 
 
-def done(code, first=0):
-    return f"{code}00{first:02X}" + "0" * 46
+def done(code, first=0, second=0, third=0):
+    return f"{code}00" + "".join(f"{figure:02X}" + "0" * 14 for figure in (first, second, third))
 
 
 def refused(code, number):
@@ -129,7 +130,7 @@ class Runner(unittest.TestCase):
         false = LAY[:22] + "0" * 64
         got = replies([LAY, LINKS[0], LINKS[2], "0200", too_many, no_items, false, "0500", "0501", "0502", "07"])
         self.assertEqual(got[4:7], [refused("01", 2), refused("01", 2), refused("01", 3)])
-        self.assertEqual(got[7:], [done("05"), refused("05", 6), done("05", 1), READ_500])
+        self.assertEqual(got[7:], [done("05"), refused("05", 6), done("05", 2), READ_500])
 
     def test_new_stations_are_off_until_their_link(self):
         off = [refused("05", 6), refused("06", 6)]
@@ -137,12 +138,23 @@ class Runner(unittest.TestCase):
         self.assertEqual(got, [done("01"), done("0A"), done("02"), *off, *off, *off])
         got = replies([LAY, "0200", LINKS[1], "0500", "0501", "0502", "0A00", LINKS[2], "0500", "0502", "0A00", "07"])
         self.assertEqual(got[2:7], [done("09"), refused("05", 6), done("05"), refused("05", 6), done("0A")])
-        self.assertEqual(got[7:], [done("09"), refused("05", 6), done("05", 1), done("0A", 3), READ_500])
+        self.assertEqual(got[7:], [done("09"), refused("05", 6), done("05", 3), done("0A", 3), READ_500])
 
     def test_another_lay_takes_all_off_again(self):
         got = replies([LAY, *LINKS, "0A00", "0200", "0500", LAY, "0A00", "0500", "0200", "0500", "0501", "0502"])
         self.assertEqual(got[4:7], [done("0A", 3), done("02"), done("05")])
         self.assertEqual(got[7:], [done("01"), done("0A"), refused("05", 5), done("02"), *3 * [refused("05", 6)]])
+
+    def test_diagnose_tells_what_the_next_commit_gets(self):
+        """Of a write that is not heard, then short, then short of a dropped station's put, then whole."""
+        got = replies([LAY, *LINKS, "0B", "0300FE01000000000000", "0B", "07", "0502", "0B", "07", "0501", "0B", "07",
+                       "060101", "060201", "090200", "0B", "07", "090201", "060201", "0B", "07", "0B"])
+        self.assertEqual(got[4:8], [refused("0B", 5), done("03"), done("0B", 8), refused("07", 8)])
+        self.assertEqual(got[8:11], [done("05"), done("0B", 8, 3), refused("07", 8)])
+        self.assertEqual(got[11:14], [done("05", 3), done("0B", 11, 2, 3), refused("07", 11)])
+        self.assertEqual(got[14:19], [done("06"), done("06"), done("09"), done("0B", 11, 2, 3), refused("07", 11)])
+        self.assertEqual(got[19:22], [done("09"), done("06"), done("0B", 0, 2, 3)])
+        self.assertEqual(got[22:], ["0700FE010000000000000100000000000000" + "0" * 16, refused("0B", 5)])
 
     def test_largest_table(self):
         lay = "0110200A00000000000000" + "FFFF" + "0" * 28 + "FFFF" + "0" * 28

@@ -1,5 +1,6 @@
 -- The starred cases of document 01, "Trays through the house", the mistakes of "What growers' programs get wrong", the stations of a new table and the
--- house whose sets move, and what holds a round up (document 02, 2026-02 to 2026-04), as one table: on bytes, from a lay on, call by call.
+-- house whose sets move, and what holds a round up (document 02, 2026-02 to 2026-04), as one table: on bytes, lists of calls from a lay on, of each of which
+-- the last reply is compared.
 use mathlib.Core.Path.{_≡_}
 use mathlib.Core.List.{List, [], _∷_, _++_}
 use mathlib.Core.Option.{Option, none, some}
@@ -192,13 +193,16 @@ table =
     ∷ row (openWrite 0 510 ∷ poll 0 ∷ diagnose ∷ []) 0 8 1 0
     -- the place is that of the newest configuration: 0 and 1 hold a pair, but know the change to 0004
     ∷ row (changes ++ round (openRead 0) (diagnose ∷ [])) 0 8 1 0
-    -- a heard read can be closed, and the commit right after it is done; a write lacks its puts, then has them, then loses one
+    -- a heard read can be closed, and the commit right after it is done; a station that has gone off still counts, and is shown
     ∷ row (round (openRead 0) (diagnose ∷ [])) 0 0 1 1
     ∷ row (round (openRead 0) (diagnose ∷ commit ∷ [])) 0 500 0 0
+    ∷ row (round (openRead 0) (drops 0 ∷ diagnose ∷ [])) 0 0 1 1
+    -- a write lacks a put, then has both, then loses one
     ∷ row (round (openWrite 0 510) (dataPut 0 ∷ diagnose ∷ [])) 0 11 1 1
     ∷ row (round (openWrite 0 510) (dataPut 0 ∷ dataPut 1 ∷ diagnose ∷ [])) 0 0 1 1
     ∷ row (round (openWrite 0 510) (dataPut 0 ∷ dataPut 1 ∷ drops 1 ∷ diagnose ∷ [])) 0 11 1 1
-    -- a change lacks its configuration puts, then has them
+    -- a change lacks a data put, or a configuration put, then has all
+    ∷ row (round (openChange 0 single) (configPut 0 ∷ configPut 1 ∷ diagnose ∷ [])) 0 11 1 1
     ∷ row (round (openChange 0 single) (dataPut 2 ∷ configPut 0 ∷ diagnose ∷ [])) 0 11 1 1
     ∷ row (round (openChange 0 single) (dataPut 2 ∷ configPut 0 ∷ configPut 1 ∷ diagnose ∷ [])) 0 0 1 1
     -- the station that gave the version, and not the one that gave the generation: 510 is at 1 and 2, and of 0 and 2 only 0 knows the change to 0004

@@ -43,7 +43,7 @@ module _ (t : List ℕ) (e : sound t ≡ true) where
   heard-reply i h = sym (by-tests ∙ rw (i, h))
 
 pub closes : (t : List ℕ) {b g : ℕ} → HeardAt t b g → closingReply t ≡ reply t commit
-closes t f = heard-reply t (f .isSound) (a-round _ .1 (f .isOpen)) (f .isHeard)
+closes t f = heard-reply t (f .isOpen .0) (a-round _ .1 (f .isOpen .1)) (f .isHeard)
 
 -- in a heard round, by its kind
 module _ (t : List ℕ) {k : Kind} (e : view t .round .kind ≡ k) where

@@ -57,8 +57,7 @@ module _ (t : List ℕ) where
         let y-at : y ≡ address n item g = rw (stations-are, item-is) at y-is in
         let copies = own-copies t (o .0) refl refl in
         record {
-          isSound = o .0;
-          isOpen = o .1;
+          isOpen = o;
           isHeard = h;
           version = found-copy n polled (versionsOf t n item) (own .version) t item v x-at;
           generation = found-copy n polled (generationsOf t n item) (own .generation) t item w y-at;

@@ -1,4 +1,5 @@
--- Parts of the rules that the functions of commit's reply are held to.
+-- Parts of the rules that the functions of commit's reply are held to, which diagnose asks too. The enum `Hearing` is theirs alone: where it says
+-- `Unheard`, commit's reply is 8.
 use mathlib.Core.Path.{_≡_}
 use mathlib.Core.Bool.{true, false}
 use mathlib.Core.List.{List}
@@ -26,10 +27,10 @@ OpenRound t = (sound t ≡ true) × (view t .round .kind ≡ none → ⊥)
 abbrev pub OwnFound : List ℕ → Found → Type 0
 OwnFound t found = IsFound t (stations t) (roundOf t .item) (roundOf t .polled) found
 
--- the table is sound, its round open and heard; what it has found by version stands from byte b on, and by generation from byte g on, whole
+-- the table is sound, its round open and heard; what it has found by version stands from byte b on, and by generation from byte g on, whole. (At which
+-- stations does not matter to the reply.)
 pub record HeardAt (t : List ℕ) (b g : ℕ) : Type 0 where
-  pub isSound : sound t ≡ true
-  pub isOpen : view t .round .kind ≡ none → ⊥
+  pub isOpen : OpenRound t
   pub isHeard : heard (view t) ≡ true
   pub version : foundByVersion (view t) ≡ copyFrom t b
   pub generation : foundByGeneration (view t) ≡ copyFrom t g

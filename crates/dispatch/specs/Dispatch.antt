@@ -44,7 +44,7 @@ callsOf arguments =
     ∷ []
 
 -- The call of a code and argument bytes; a code that has none, or too few bytes, stand for no call. Bytes behind the arguments are not read. (A
--- line has just the bytes of its frame: `isFrame`. Other callers may hand over more.)
+-- line has just the bytes of its frame: `isFrame`.)
 unfoldable pub callAt : ℕ → List ℕ → Option Call
 callAt code arguments = cond (ltb (length arguments) (frameLength code - 1)) none (getD (callsOf arguments) code none)
 

@@ -42,7 +42,7 @@ valueAt = 16
 abbrev pub targetAt : ℕ
 targetAt = 24
 
--- Where the copies start: "The copy of item i at station s starts at 56 + .." Here that is where the head ends.
+-- Where the copies start: "The copy of item i at station s starts at 56 + ..", where the head ends.
 abbrev pub copiesAt : ℕ
 copiesAt = 56
 

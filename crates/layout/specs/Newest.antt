@@ -1,5 +1,5 @@
--- What the copies at the stations of a set give, a round's polled set or for reach the stations on the bus (document 01, "The calls"): "the newest copy by
--- version gives version and value; the newest by generation gives generation and configuration; on equal numbers the lowest station counts."
+-- What the copies at the stations of a set give. The set is a round's polled set or, for reach, the stations on the bus. Document 01, "The calls": "the
+-- newest copy by version gives version and value; the newest by generation gives generation and configuration; on equal numbers the lowest station counts."
 use mathlib.Core.Path.{_≡_}
 use mathlib.Core.Bool.{Bool, true, false, cond}
 use mathlib.Core.Logic.{_↔_}
@@ -42,9 +42,12 @@ abbrev pub copyOr : (ℕ → Copy) → Option ℕ → Copy
 copyOr copies none = noCopy
 copyOr copies (some s) = copies s
 
--- the station that gives the version, if any
+-- the station that gives version and value, and the one that gives generation and configuration, if any
 abbrev pub versionStation : (ℕ → Copy) → ℕ → ℕ → Option ℕ
 versionStation copies set n = newest (λ s. copies s .version) set n
+
+abbrev pub generationStation : (ℕ → Copy) → ℕ → ℕ → Option ℕ
+generationStation copies set n = newest (λ s. copies s .generation) set n
 
 -- a station, or none, as a figure (document 02, 2026-04): "one plus the station that gave the version, or 0"
 abbrev pub stationFigure : Option ℕ → ℕ
@@ -55,7 +58,7 @@ unfoldable pub byVersion : (ℕ → Copy) → ℕ → ℕ → Copy
 byVersion copies set n = copyOr copies (versionStation copies set n)
 
 unfoldable pub byGeneration : (ℕ → Copy) → ℕ → ℕ → Copy
-byGeneration copies set n = copyOr copies (newest (λ s. copies s .generation) set n)
+byGeneration copies set n = copyOr copies (generationStation copies set n)
 
 -- "The round is heard if the polled set holds every station of some read set of that configuration." And document 02, 2026-04: "The test for heard
 -- shall tell the first read place held". In source 000 (5.4.3): a read quorum of the configuration with the highest generation that was read has been read.

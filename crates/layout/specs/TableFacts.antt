@@ -1,4 +1,4 @@
--- What holds of every table.
+-- The state of a sound table of bytes has every byte of it; and how long tables are.
 use mathlib.Core.Path.{_≡_}
 use mathlib.Core.Bool.{true}
 use Prim.Native.Nat.{ℕ, _≤_}

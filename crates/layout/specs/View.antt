@@ -2,13 +2,14 @@
 use mathlib.Core.Path.{_≡_}
 use mathlib.Core.Bool.{Bool}
 use mathlib.Core.List.{List}
+use mathlib.Core.Option.{Option}
 use Prim.Native.Nat.{ℕ, _<_}
 use lib.ListN.{length}
 use lib.Dec.{eqb}
 use Rattle.quorum.specs.Sets.{full, minus}
 use Rattle.quorum.specs.declared.Place.{Place}
 use Rattle.layout.specs.Layout.{tableLength}
-use Rattle.layout.specs.Newest.{byVersion, byGeneration, heardPlace, hears}
+use Rattle.layout.specs.Newest.{versionStation, byVersion, byGeneration, heardPlace, hears}
 use Rattle.layout.specs.Fields.{Copy, Round, stations, items, offSet, roundOf, copyOf}
 use Rattle.layout.specs.Soundness.{sound}
 
@@ -60,6 +61,10 @@ foundByVersion v = byVersion (own v) (v .round .polled) (v .n)
 
 abbrev pub foundByGeneration : State → Copy
 foundByGeneration v = byGeneration (own v) (v .round .polled) (v .n)
+
+-- the station that gave the version, if any
+abbrev pub versionFrom : State → Option ℕ
+versionFrom v = versionStation (own v) (v .round .polled) (v .n)
 
 -- the first read place held, and whether there is one
 abbrev pub readPlace : State → Place

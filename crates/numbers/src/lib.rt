@@ -1,6 +1,6 @@
 // The number of each call's reply but commit's, on a sound table: document 01's tests in its order. Nothing is changed here.
 ghost use mathlib.Core.Path.{_≡_};
-ghost use mathlib.Core.Bool.{true, _||_};
+ghost use mathlib.Core.Bool.{true, false, _||_};
 ghost use lib.Dec.{eqb};
 ghost use lib.ListN.{length, drop};
 ghost use Prim.Native.Nat.{_≤_};
@@ -9,7 +9,7 @@ ghost use Rattle.layout.specs.Fields.{none, write, change};
 ghost use Rattle.layout.specs.Soundness.{sound};
 ghost use Rattle.layout.specs.View.{view};
 ghost use Rattle.rules.specs.Calls.{lay, openRead, openChange, poll, put, abandon, link, reach};
-ghost use Rattle.rules.specs.Rules.{first, readingOver, spent, tests};
+ghost use Rattle.rules.specs.Rules.{first, noSort, readingOver, spent, tests};
 use layout::NO_ROUND;
 use layout::READ;
 use layout::WRITE;
@@ -159,9 +159,9 @@ pub fn put_number(t: &[u8], s: u64, sort: u64) -> u64
     put_kind_number(t, sort)
 }
 
-// The last tests of a put, by the round's kind.
+// The last tests of a put of a listed sort, by the round's kind.
 fn put_kind_number(t: &[u8], sort: u64) -> u64
-    requires { ⌜ (sound (now t) ≡ true) × (view (now t) .round .kind ≡ none → ⊥) ⌝ }
+    requires { ⌜ (sound (now t) ≡ true) × (view (now t) .round .kind ≡ none → ⊥) × (noSort sort ≡ false) ⌝ }
     ensures { λ r. ⌜ r ≡ first (drop 4 (tests (view (now (t .entry))) (put 0 sort))) ⌝ }
 {
     // Lent on, so that the compiler hands address and length over in registers.

@@ -12,15 +12,14 @@ use Rattle.basics.specs.Tests.{Some}
 use Rattle.quorum.specs.Sets.{member, used, within, unite, remove, full}
 use Rattle.quorum.specs.Configurations.{setAt, readSet, writeSet, valid, holdsPlace, firstPlace}
 use Rattle.quorum.specs.Configurations.{firstRead, firstWrite, isPlace, holdsRead, holdsWrite, configSize}
-use Rattle.quorum.specs.Promise.{Promise, _⊆_, LiesIn, FirstIn, Side}
-use Rattle.quorum.specs.declared.Place.the-variants.{At}
+use Rattle.quorum.specs.Promise.{Promise, _⊆_, QuorumIn, FirstIn, Side}
+use Rattle.quorum.specs.declared.Place.the-variants.{At, Nowhere}
 use Rattle.basics.proofs.Tests.{clash, fails, same-test, either}
 use Rattle.quorum.proofs.Members.{member-empty, member-join, member-or, member-minus, member-remove, member-full, same-members}
 use Rattle.quorum.proofs.Members.{holds-member, member-holds, shares-members, used-member, within-members, within-join, within-unite, within-minus}
 use Rattle.quorum.proofs.Members.{lowest-member, below-lowest, remove-less, without-lowest}
 use Rattle.quorum.proofs.Validity.{valid-facts, facts-valid, first-used, place-lies, lies-place}
-use Rattle.quorum.proofs.Validity.{first-start, first-on, first-hit, first-found, first-nowhere}
-use Rattle.quorum.proofs.Validity.{some-place, no-place, a-place, figure-at, figure-nowhere}
+use Rattle.quorum.proofs.Validity.{first-exactly, first-nowhere, no-place, a-place, figure-at, figure-nowhere}
 
 -- ---- a side of a configuration: the first place whose set lies within, and whether there is one
 module _ (side : ℕ → ℕ) (set : ℕ) where
@@ -29,15 +28,21 @@ module _ (side : ℕ → ℕ) (set : ℕ) where
 
   first-in : (k : ℕ) → (firstPlace (holdsPlace side set) 8 ≡ At k) ↔ FirstIn side set k
   first-in k = (
-    λ e. let f = first-found (holdsPlace side set) 8 k .0 e in
+    λ e. let f = first-exactly (holdsPlace side set) 8 k .0 e in
         (f .0, place-lies side set k (f .1), λ j l h. clash (lies-place side set j h) (f .2 j l)),
-    λ f. first-found (holdsPlace side set) 8 k .1 (f .0, lies-place side set k (f .1), λ j l. fails _ (λ e. f .2 j l (place-lies side set j e))),
+    λ f. first-exactly (holdsPlace side set) 8 k .1 (f .0, lies-place side set k (f .1), λ j l. fails _ (λ e. f .2 j l (place-lies side set j e))),
   )
 
-  held : (any ≡ true) ↔ Some 8 (LiesIn side set)
+  none-in : (firstPlace (holdsPlace side set) 8 ≡ Nowhere) ↔ (QuorumIn side set → ⊥)
+  none-in = (
+    λ e s. clash (lies-place side set (s .0) (s .2)) (first-nowhere _ 8 .0 e (s .0) (s .1)),
+    λ h. first-nowhere _ 8 .1 (λ k l. fails _ (λ e. h (k, l, place-lies side set k e))),
+  )
+
+  held : (any ≡ true) ↔ QuorumIn side set
   held = (
-    λ e. let s = a-place _ e in let f = first-in (s .0) .0 (s .1) in (s .0, f .0, f .1),
-    λ s. either any (λ e. e) (λ e. clash (lies-place side set (s .0) (s .2)) (first-nowhere _ 8 .0 (no-place _ .1 e) (s .0) (s .1))),
+    λ e. let s = a-place _ .0 e in let f = first-in (s .0) .0 (s .1) in (s .0, f .0, f .1),
+    λ s. either any (λ e. e) (λ e. absurd (none-in .0 (no-place _ .0 e) s)),
   )
 
 more : (side : ℕ → ℕ) (a b : ℕ) → a ⊆ b → any side a ≡ true → any side b ≡ true
@@ -90,14 +95,14 @@ promise =
       none-write = λ c. none (writeSet c);
       all-read = λ n c v. let f = valid-facts n c v in whole n (readSet c) (f .small) (f .reads);
       all-write = λ n c v. let f = valid-facts n c v in whole n (writeSet c) (f .small) (f .writes);
+      first-exactly = first-exactly;
+      first-nowhere = first-nowhere;
       first-read = λ c. first-in (readSet c);
       first-write = λ c. first-in (writeSet c);
-      no-first-read = λ c set. no-place (firstRead c set);
-      no-first-write = λ c set. no-place (firstWrite c set);
-      first-start = first-start;
-      first-on = first-on;
-      first-hit = first-hit;
-      some-place = some-place;
+      no-first-read = λ c. none-in (readSet c);
+      no-first-write = λ c. none-in (writeSet c);
+      a-place = a-place;
+      no-place = no-place;
       figure-at = figure-at;
       figure-nowhere = figure-nowhere;
       valid-exactly = λ n c. (valid-facts n c, facts-valid n c);

@@ -10,14 +10,13 @@ use native.Mathlib.Omega.{arith}
 use lib.ListN.{length}
 use lib.Dec.{eqb}
 use borrow.Author.Tests.{leb-true, le-leb, eqb-true, eqb-false, eq-eqb, not-true}
-use Rattle.basics.specs.Tests.{anyBelow}
 use Rattle.quorum.specs.Sets.{used}
 use Rattle.quorum.specs.Configurations.{readSet, writeSet, usedFirst, someUsed, allWithin, sharesAll, allShare, validity, valid, configSize}
 use Rattle.quorum.specs.Configurations.{holdsPlace, firstPlace, orElse, placeFigure, isPlace}
 use Rattle.quorum.specs.Promise.{LiesIn, Side, Valid}
 use Rattle.quorum.specs.declared.Place.{Place}
 use Rattle.quorum.specs.declared.Place.the-variants.{At, Nowhere}
-use Rattle.basics.proofs.Tests.{clash, and-left, and-right, and-both, implies, implied, or-cases, either, same-test}
+use Rattle.basics.proofs.Tests.{clash, and-left, and-right, and-both, implies, implied, or-cases, either}
 use Rattle.basics.proofs.Tests.{all-true, true-all, all-below, below-all, any-below, below-any, below-suc}
 use Rattle.quorum.proofs.Members.{holds-member, member-holds, shares-members, within-members}
 
@@ -123,16 +122,16 @@ first-step : (p : ℕ → Bool) (k : ℕ) → firstPlace p (suc k) ≡ orElse (f
 unfolding firstPlace
 first-step p k = refl
 
--- what a search that counts up asks: at its start, where it goes on, and where it finds
-pub first-start : (p : ℕ → Bool) → firstPlace p 0 ≡ Nowhere
+-- at its start, where it goes on, and where it finds
+first-start : (p : ℕ → Bool) → firstPlace p 0 ≡ Nowhere
 unfolding firstPlace
 first-start p = refl
 
-pub first-on : (p : ℕ → Bool) (k : ℕ) → firstPlace p k ≡ Nowhere → p k ≡ false → firstPlace p (k + 1) ≡ Nowhere
+first-on : (p : ℕ → Bool) (k : ℕ) → firstPlace p k ≡ Nowhere → p k ≡ false → firstPlace p (k + 1) ≡ Nowhere
 unfolding orElse
 first-on p k e f = rw (add-one, first-step, e, f)
 
-pub first-hit : (p : ℕ → Bool) (n k : ℕ) → k < n → firstPlace p k ≡ Nowhere → p k ≡ true → firstPlace p n ≡ At k
+first-hit : (p : ℕ → Bool) (n k : ℕ) → k < n → firstPlace p k ≡ Nowhere → p k ≡ true → firstPlace p n ≡ At k
 unfolding orElse
 first-hit p zero k l e f = absurd (not-suc-le-zero l)
 first-hit p (suc n) k l e f =
@@ -164,8 +163,8 @@ scan p (suc n) = ⊎-elim stop on (scan p n)
     on : (i : ℕ) × (firstPlace p n ≡ At i) × First p n i → Scanned p (suc n)
     on r = let l = r .2 .0 in inr (r .0, rw (first-step, r .1), (omega arith, r .2 .1, r .2 .2))
 
-pub first-found : (p : ℕ → Bool) (n k : ℕ) → (firstPlace p n ≡ At k) ↔ First p n k
-first-found p n k = (
+pub first-exactly : (p : ℕ → Bool) (n k : ℕ) → (firstPlace p n ≡ At k) ↔ First p n k
+first-exactly p n k = (
   λ e. ⊎-elim (λ h. let z : _≡_ {A = ℕ} 0 1 = cc (h .0) in absurd (omega arith)) (λ r. let q : r .0 ≡ k = cc (r .1) in rw q at (r .2)) (scan p n),
   λ f. first-hit p n k (f .0) (⊎-elim (λ h. h .0) (λ r. clash (r .2 .1) (f .2 (r .0) (r .2 .0))) (scan p k)) (f .1),
 )
@@ -177,20 +176,15 @@ first-nowhere p n = (
 )
 
 -- ---- whether there is a place, and its figure
-pub no-place : (place : Place) → (place ≡ Nowhere) ↔ (isPlace place ≡ false)
+pub no-place : (place : Place) → (isPlace place ≡ false) ↔ (place ≡ Nowhere)
 unfolding isPlace
-no-place (At k) = (λ e. let z : _≡_ {A = ℕ} 0 1 = cc e in absurd (omega arith), λ e. absurd (true≢false e))
+no-place (At k) = (λ e. absurd (true≢false e), λ e. let z : _≡_ {A = ℕ} 0 1 = cc e in absurd (omega arith))
 no-place Nowhere = (λ _. refl, λ _. refl)
 
-pub a-place : (place : Place) → isPlace place ≡ true → (k : ℕ) × (place ≡ At k)
+pub a-place : (place : Place) → (isPlace place ≡ true) ↔ ((k : ℕ) × (place ≡ At k))
 unfolding isPlace
-a-place (At k) e = (k, refl)
-a-place Nowhere e = absurd (false≢true e)
-
-pub some-place : (p : ℕ → Bool) (n : ℕ) → isPlace (firstPlace p n) ≡ anyBelow p n
-some-place p n =
-    same-test _ _ (λ e. let s = a-place _ e in let f = first-found p n (s .0) .0 (s .1) in below-any p n (s .0) (f .0) (f .1))
-    (λ e. let s = any-below p n e in either (isPlace (firstPlace p n)) (λ t. t) (λ t. clash (s .2) (first-nowhere p n .0 (no-place _ .1 t) (s .0) (s .1))))
+a-place (At k) = (λ _. (k, refl), λ _. refl)
+a-place Nowhere = (λ e. absurd (false≢true e), λ s. let z : _≡_ {A = ℕ} 0 1 = cc (s .1) in absurd (omega arith))
 
 pub figure-at : (place : Place) (k : ℕ) → (placeFigure place ≡ suc k) ↔ (place ≡ At k)
 unfolding placeFigure

@@ -91,6 +91,7 @@ unfoldable pub placeFigure : Place → ℕ
 placeFigure (At k) = k + 1
 placeFigure Nowhere = 0
 
+-- whether there is one
 unfoldable pub isPlace : Place → Bool
 isPlace (At k) = true
 isPlace Nowhere = false

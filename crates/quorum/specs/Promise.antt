@@ -1,15 +1,15 @@
 -- What the crate promises of its definitions of sets and configurations: "the table layer relies on their promises alone". The crates above
 -- rely on this record and on the contracts of `sets` and `validity`. These two, the code of this layer, open the definitions, and so do the
--- examples that are computed (`cases`).
+-- examples that are computed (`cases`, `runs`).
 use mathlib.Core.Path.{_≡_}
 use mathlib.Core.Bool.{Bool, true, false, not, _&&_, _||_}
 use mathlib.Core.List.{List}
 use mathlib.Core.Logic.{_↔_}
-use Prim.Native.Nat.{ℕ, suc, _+_, _-_, _≤_, _<_}
+use Prim.Native.Nat.{ℕ, suc, _-_, _≤_, _<_}
 use lib.Dec.{ltb, eqb}
 use lib.ListN.{length}
 use lib.Bits.{bitAnd}
-use Rattle.basics.specs.Tests.{anyBelow, Some}
+use Rattle.basics.specs.Tests.{Some}
 use Rattle.quorum.specs.Sets.{member, used, holds, shares, within, join, unite, minus, remove, lowest, full}
 use Rattle.quorum.specs.Configurations.{configSize, readSet, writeSet, valid, firstPlace}
 use Rattle.quorum.specs.Configurations.{firstRead, firstWrite, placeFigure, isPlace, holdsRead, holdsWrite}
@@ -24,6 +24,10 @@ a ⊆ b = (i : ℕ) → member a i ≡ true → member b i ≡ true
 -- a place of a side is used, and its set lies within the given one: source 000's 𝓡 ∈ config.read and 𝓡 ⊆ read (5.4.3)
 abbrev pub LiesIn : (ℕ → ℕ) → ℕ → ℕ → Type 0
 LiesIn side set k = (used (side k) ≡ true) × (side k ⊆ set)
+
+-- some set of a side lies within a station set
+abbrev pub QuorumIn : (ℕ → ℕ) → ℕ → Type 0
+QuorumIn side set = Some 8 (LiesIn side set)
 
 -- k is the first place of a side that is used and whose set lies within the given one
 abbrev pub FirstIn : (ℕ → ℕ) → ℕ → ℕ → Type 0
@@ -52,8 +56,8 @@ pub record Promise : Type 0 where
   pub quorums-meet : (n : ℕ) (c : List ℕ) (r w : ℕ) → valid n c ≡ true → holdsRead c r ≡ true → holdsWrite c w ≡ true
       → Some n (λ i. (member r i ≡ true) × (member w i ≡ true))
   -- to hold a read or a write set is that one lies within
-  pub holds-read : (c : List ℕ) (set : ℕ) → (holdsRead c set ≡ true) ↔ Some 8 (LiesIn (readSet c) set)
-  pub holds-write : (c : List ℕ) (set : ℕ) → (holdsWrite c set ≡ true) ↔ Some 8 (LiesIn (writeSet c) set)
+  pub holds-read : (c : List ℕ) (set : ℕ) → (holdsRead c set ≡ true) ↔ QuorumIn (readSet c) set
+  pub holds-write : (c : List ℕ) (set : ℕ) → (holdsWrite c set ≡ true) ↔ QuorumIn (writeSet c) set
   -- a larger set holds what a smaller one does, the empty set holds none, all stations hold one of each side
   pub read-more : (c : List ℕ) (a b : ℕ) → a ⊆ b → holdsRead c a ≡ true → holdsRead c b ≡ true
   pub write-more : (c : List ℕ) (a b : ℕ) → a ⊆ b → holdsWrite c a ≡ true → holdsWrite c b ≡ true
@@ -62,18 +66,17 @@ pub record Promise : Type 0 where
   pub all-read : (n : ℕ) (c : List ℕ) → valid n c ≡ true → holdsRead c (full n) ≡ true
   pub all-write : (n : ℕ) (c : List ℕ) → valid n c ≡ true → holdsWrite c (full n) ≡ true
   -- ---- places
-  -- the first place is the first whose set lies within, and there is none exactly if no set is held
+  -- the first place below a bound of which a test holds, and that there is none
+  pub first-exactly : (p : ℕ → Bool) (n k : ℕ) → (firstPlace p n ≡ At k) ↔ ((k < n) × (p k ≡ true) × ((j : ℕ) → j < k → p j ≡ false))
+  pub first-nowhere : (p : ℕ → Bool) (n : ℕ) → (firstPlace p n ≡ Nowhere) ↔ ((k : ℕ) → k < n → p k ≡ false)
+  -- that of a side is the first whose set lies within, and there is none exactly if no set does
   pub first-read : (c : List ℕ) (set k : ℕ) → (firstRead c set ≡ At k) ↔ FirstIn (readSet c) set k
   pub first-write : (c : List ℕ) (set k : ℕ) → (firstWrite c set ≡ At k) ↔ FirstIn (writeSet c) set k
-  pub no-first-read : (c : List ℕ) (set : ℕ) → (firstRead c set ≡ Nowhere) ↔ (holdsRead c set ≡ false)
-  pub no-first-write : (c : List ℕ) (set : ℕ) → (firstWrite c set ≡ Nowhere) ↔ (holdsWrite c set ≡ false)
-  -- for code that counts up: at its start, where it goes on, and where it finds
-  pub first-start : (p : ℕ → Bool) → firstPlace p 0 ≡ Nowhere
-  pub first-on : (p : ℕ → Bool) (k : ℕ) → firstPlace p k ≡ Nowhere → p k ≡ false → firstPlace p (k + 1) ≡ Nowhere
-  pub first-hit : (p : ℕ → Bool) (n k : ℕ) → k < n → firstPlace p k ≡ Nowhere → p k ≡ true → firstPlace p n ≡ At k
-  -- there is a place exactly if the test holds of some number below the bound
-  pub some-place : (p : ℕ → Bool) (n : ℕ) → isPlace (firstPlace p n) ≡ anyBelow p n
-  -- the figure tells the answer
+  pub no-first-read : (c : List ℕ) (set : ℕ) → (firstRead c set ≡ Nowhere) ↔ (QuorumIn (readSet c) set → ⊥)
+  pub no-first-write : (c : List ℕ) (set : ℕ) → (firstWrite c set ≡ Nowhere) ↔ (QuorumIn (writeSet c) set → ⊥)
+  -- whether it is a place; the figure tells the answer
+  pub a-place : (place : Place) → (isPlace place ≡ true) ↔ ((k : ℕ) × (place ≡ At k))
+  pub no-place : (place : Place) → (isPlace place ≡ false) ↔ (place ≡ Nowhere)
   pub figure-at : (place : Place) (k : ℕ) → (placeFigure place ≡ suc k) ↔ (place ≡ At k)
   pub figure-nowhere : (place : Place) → (placeFigure place ≡ 0) ↔ (place ≡ Nowhere)
   -- ---- validity

@@ -43,7 +43,7 @@ module _ (n set : ℕ) (key : ℕ → ℕ) {o : Station} (e : asOption o ≡ new
 module _ (t : List ℕ) (n item set : ℕ) {o : Station} (w : asOption o ≡ newest (generationsOf t n item) set n) where
   pub no-place : o ≡ Nobody → Nowhere ≡ heardPlace (copiesOf t n item) set n
   unfolding byGeneration
-  no-place p = sym (promise .no-first-read _ set .1 (rw (← w, p) (promise .short-read [] set (λ z. absurd (omega arith)))))
+  no-place p = sym (promise .no-place _ .0 (rw (← w, p) (promise .short-read [] set (λ z. absurd (omega arith)))))
 
   pub place-there : {g d : ℕ} {config : List ℕ} {place : Place} → o ≡ At g → d ≡ address n item g → config ≡ copyFrom t d .config
       → place ≡ firstRead config set → place ≡ heardPlace (copiesOf t n item) set n

@@ -13,8 +13,8 @@ use Rattle.quorum.specs.Sets.{member, join, remove}
 use Rattle.quorum.specs.Configurations.{placeFigure, valid}
 use Rattle.layout.specs.Fields.{Kind, none, read, write, change}
 use Rattle.layout.specs.Rounds.{withPoll, withPut, withLink}
-use Rattle.layout.specs.Newest.{versionStation, stationFigure, heardPlace}
-use Rattle.layout.specs.View.{Table, State, view, own, foundByVersion, foundByGeneration, readPlace, heard, onBus, SameContents}
+use Rattle.layout.specs.Newest.{stationFigure, heardPlace}
+use Rattle.layout.specs.View.{Table, State, view, own, foundByVersion, foundByGeneration, versionFrom, readPlace, heard, onBus, SameContents}
 use Rattle.layout.proofs.Soundness.{is-sound}
 use Rattle.layout.proofs.Newer.{version-station-same, by-version-same, by-generation-same, place-same, hears-same}
 use Rattle.layout.proofs.Stored.{stored}
@@ -62,7 +62,7 @@ module _ (v w : State) (a : Alike v w) (listed : v .isSound ≡ true → v .roun
     polled-same : (u : ℕ) → heardPlace (own v) (withPoll (v .round) u .polled) (v .n) ≡ heardPlace (own w) (withPoll (w .round) u .polled) (w .n)
     polled-same u = place-same (own v) (own w) (withPoll (v .round) u .polled) (v .n) own-same ∙ rw (same .n, same .round)
 
-    station-same : versionStation (own v) (v .round .polled) (v .n) ≡ versionStation (own w) (w .round .polled) (w .n)
+    station-same : versionFrom v ≡ versionFrom w
     station-same = version-station-same (own v) (own w) (v .round .polled) (v .n) own-same ∙ rw (same .n, same .round)
 
     spent-same : (k : Kind) → spent v k ≡ spent w k
@@ -74,7 +74,7 @@ module _ (v w : State) (a : Alike v w) (listed : v .isSound ≡ true → v .roun
     spent-put-same : (k : Kind) (sort : ℕ) → spentAtPut v k sort ≡ spentAtPut w k sort
     spent-put-same none sort = refl
     spent-put-same read sort = refl
-    spent-put-same write sort = spent-same write
+    spent-put-same write sort = rw (spent-same write)
     spent-put-same change sort = rw (spent-same change)
 
     written-same : (k : Kind) → written v k ≡ written w k

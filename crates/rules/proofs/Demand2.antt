@@ -11,9 +11,9 @@ use Rattle.layout.specs.View.{State, view}
 use Rattle.rules.specs.Calls.{commit}
 use Rattle.rules.specs.Rules.{numberOf, spent}
 use Rattle.rules.specs.Reply.{replyOf}
-use Rattle.rules.specs.Demand2.{Found, Heard, Spent, Written, Commits, Demand2}
-use Rattle.rules.specs.Needs.{Gets, HeardRound, needs}
-use Rattle.rules.proofs.Quorums.{is-spent, is-written}
+use Rattle.rules.specs.Demand2.{Found, Heard, HeardRound, Spent, Written, Commits, Demand2}
+use Rattle.rules.specs.Needs.{Gets, needs}
+use Rattle.rules.proofs.Quorums.{found-in, is-heard, heard-exactly, is-spent, is-written}
 use Rattle.rules.proofs.Judged.{number-gets, allowed, is-done}
 
 module _ (v : State) (isSound : v .isSound ≡ true) (isOpen : v .round .kind ≡ none → ⊥) where
@@ -29,6 +29,13 @@ module _ (v : State) (isSound : v .isSound ≡ true) (isOpen : v .round .kind �
 
   same-written : (f g : Found v) → Written v f k → Written v g k
   same-written f g h = is-written v g k .0 (is-written v f k .1 h)
+
+  -- a heard round, and what it has found
+  heard-round : (f : Found v) → Heard v f → HeardRound v
+  heard-round f h = (f .g, (f .newestGeneration, h))
+
+  heard-found : (h : HeardRound v) → Heard v (found-in v h)
+  heard-found h = is-heard v (found-in v h) .0 (heard-exactly v .1 h)
 
   -- the number past soundness and the open round
   abbrev Past : ℕ → Type 0
@@ -56,39 +63,42 @@ module _ (v : State) (isSound : v .isSound ≡ true) (isOpen : v .round .kind �
   finished : (number ≡ 0) ↔ ((f : Found v) × Heard v f × (Spent v f k → ⊥) × Written v f k)
   unfolding needs
   finished = (
-    λ e. let a = allowed v commit e in let f = a .1 .1 .0 .0 in (f, a .1 .1 .0 .1, a .1 .1 .1 .0 f, a .1 .1 .1 .1 .0 f),
+    λ e. let a = allowed v commit e in
+        let h = a .1 .1 .0 in
+        let f = found-in v h in
+        (f, heard-found h, a .1 .1 .1 .0 f, a .1 .1 .1 .1 .0 f),
     λ c. let f = c .0 in
-        is-done v commit (isSound, (isOpen, ((f, c .1), (λ g s. c .2 (same-spent g f s), (λ g. same-written f g (c .3), tt))))),
+        is-done v commit (isSound, (isOpen, (heard-round f (c .1), (λ g s. c .2 (same-spent g f s), (λ g. same-written f g (c .3), tt))))),
   )
 
-  unheard : (number ≡ 8) ↔ ((f : Found v) → Heard v f → ⊥)
-  unheard = (λ e. go (past 8 e), λ c. told 8 (inl (λ h. c (h .0) (h .1), refl)))
+  unheard : (number ≡ 8) ↔ (HeardRound v → ⊥)
+  unheard = (λ e. go (past 8 e), λ c. told 8 (inl (c, refl)))
     where
-      go : Past 8 → (f : Found v) → Heard v f → ⊥
-      go (inl p) f h = p .0 (f, h)
-      go (inr (q, inl p)) f h = let e = p .1 in omega arith
-      go (inr (q, inr (r, inl p))) f h = let e = p .1 in omega arith
-      go (inr (q, inr (r, inr p))) f h = let e = p .1 in omega arith
+      go : Past 8 → HeardRound v → ⊥
+      go (inl p) h = p .0 h
+      go (inr (q, inl p)) h = let e = p .1 in omega arith
+      go (inr (q, inr (r, inl p))) h = let e = p .1 in omega arith
+      go (inr (q, inr (r, inr p))) h = let e = p .1 in omega arith
 
   is-ten : (number ≡ 10) ↔ ((f : Found v) × Heard v f × Spent v f k)
-  is-ten = (λ e. go (past 10 e), λ c. told 10 (inr ((c .0, c .1), inl (λ n. n (c .0) (c .2), refl))))
+  is-ten = (λ e. go (past 10 e), λ c. told 10 (inr (heard-round (c .0) (c .1), inl (λ n. n (c .0) (c .2), refl))))
     where
       go : Past 10 → (f : Found v) × Heard v f × Spent v f k
       go (inl p) = let e = p .1 in absurd (omega arith)
-      go (inr (q, inl p)) = (q .0, q .1, some-spent (q .0) (p .0))
+      go (inr (q, inl p)) = let f = found-in v q in (f, heard-found q, some-spent f (p .0))
       go (inr (q, inr (r, inl p))) = let e = p .1 in absurd (omega arith)
       go (inr (q, inr (r, inr p))) = let e = p .1 in absurd (omega arith)
 
   short : (number ≡ 11) ↔ ((f : Found v) × Heard v f × (Spent v f k → ⊥) × (Written v f k → ⊥))
   short = (
     λ e. go (past 11 e),
-    λ c. let f = c .0 in told 11 (inr ((f, c .1), inr (λ g s. c .2 (same-spent g f s), inl (λ w. c .3 (w f), refl)))),
+    λ c. let f = c .0 in told 11 (inr (heard-round f (c .1), inr (λ g s. c .2 (same-spent g f s), inl (λ w. c .3 (w f), refl)))),
   )
     where
       go : Past 11 → (f : Found v) × Heard v f × (Spent v f k → ⊥) × (Written v f k → ⊥)
       go (inl p) = let e = p .1 in absurd (omega arith)
       go (inr (q, inl p)) = let e = p .1 in absurd (omega arith)
-      go (inr (q, inr (r, inl p))) = (q .0, q .1, r (q .0), λ w. p .0 (λ g. same-written (q .0) g w))
+      go (inr (q, inr (r, inl p))) = let f = found-in v q in (f, heard-found q, r f, λ w. p .0 (λ g. same-written f g w))
       go (inr (q, inr (r, inr p))) = let e = p .1 in absurd (omega arith)
 
   no-other : (number ≡ 0) ⊎ ((number ≡ 8) ⊎ ((number ≡ 10) ⊎ (number ≡ 11)))
@@ -100,7 +110,7 @@ module _ (v : State) (isSound : v .isSound ≡ true) (isOpen : v .round .kind �
       go (inr (q, inr (r, inl p))) = inr (inr (inr (p .1)))
       go (inr (q, inr (r, inr p))) = inl (p .1)
 
-  pub commits : Commits v k number
+  pub commits : Commits v number
   commits = record { finished = finished; unheard = unheard; spent = is-ten; short = short; noOther = no-other }
 
 pub demand2 : Demand2

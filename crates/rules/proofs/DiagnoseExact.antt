@@ -7,6 +7,7 @@ use native.Mathlib.Omega.{arith}
 use Rattle.basics.specs.Bytes.{AreBytes}
 use Rattle.basics.proofs.Tests.{clash, either}
 use Rattle.quorum.specs.Configurations.{placeFigure}
+use Rattle.quorum.proofs.Promise.{promise}
 use Rattle.layout.specs.View.{Table, view, own}
 use Rattle.layout.specs.Soundness.{sound}
 use Rattle.layout.proofs.Newer.{by-version}
@@ -18,11 +19,11 @@ use Rattle.rules.specs.After.{done}
 use Rattle.rules.specs.Reply.{replyOf, reply, after}
 use Rattle.rules.specs.Needs.{needs}
 use Rattle.rules.specs.Steps.{Closing, Diagnosed}
-use Rattle.rules.specs.DiagnoseExact.{UpToDate, DiagnoseExact}
+use Rattle.rules.specs.DiagnoseExact.{ShowsCurrent, DiagnoseExact}
 use Rattle.rules.proofs.Judged.{numbered, idle-none, a-round}
 use Rattle.rules.specs.Demand2.{Found}
 use Rattle.rules.specs.Book.{Book, fed}
-use Rattle.rules.proofs.Quorums.{heard-exactly, heard-by}
+use Rattle.rules.proofs.Quorums.{found-in, heard-by}
 use Rattle.rules.proofs.Demand1.{reply-figures, refusal-has-no-figures}
 use Rattle.rules.proofs.Demand2.{demand2}
 use Rattle.rules.proofs.Demand3.{after-lists}
@@ -100,9 +101,9 @@ module _ (t : Table) where
 
   -- ---- where it is done
   module _ (e : number ≡ 0) where
-    commits : reply t diagnose .first ≡ committing
+    commit-number : reply t diagnose .first ≡ committing
     unfolding figuresOf replyOf
-    commits = reply-figures t diagnose e .0
+    commit-number = reply-figures t diagnose e .0
 
     shows : Diagnosed (view t) (reply t diagnose)
     unfolding needs
@@ -111,28 +112,25 @@ module _ (t : Table) where
 
     unheard : (reply t diagnose .third ≡ 0) ↔ (reply t diagnose .first ≡ 8)
     unheard = (
-      λ z. shows .commits .unheard .1 (λ f h. shows .place .unheard .0 z (f .g) (f .newestGeneration, h)),
-      λ z. shows .place .unheard .1 (λ g h. let x = heard-exactly (view t) .0 (heard-by (view t) (view t .round .item) (view t .round .polled) .1 (g, h)) in
-          shows .commits .unheard .0 z (x .0) (x .1)),
+      λ z. shows .commits .unheard .1 (λ h. shows .place .unheard .0 z (h .0) (h .1)),
+      λ z. shows .place .unheard .1 (λ g h. shows .commits .unheard .0 z (g, h)),
     )
-
-    found : (f : Found (view t)) → reply t diagnose .second ≡ suc (f .b)
-    found f = shows .station (f .b) .1 (f .newestVersion)
 
     closing : reply t diagnose .first ≡ 0
         → (f : Found (view t)) × (reply t diagnose .second ≡ suc (f .b)) × Closing (view t) f (view t .round .kind) (reply t commit)
     unfolding needs figuresOf
     closing z =
-        let finished : committing ≡ 0 = sym commits ∙ z in
+        let finished : committing ≡ 0 = sym commit-number ∙ z in
         let a = done-allowed t commit finished in
-        let f = a .1 .1 .0 .0 in
-        (f, found f, closing-step (view t) f (reply t commit) (view t .round .kind) (a .1 .0) (reply-figures t commit finished))
+        let f = found-in (view t) (a .1 .1 .0) in
+        let figures = reply-figures t commit finished in
+        (f, shows .station (f .b) .1 (f .newestVersion), closing-step (view t) f (reply t commit) (view t .round .kind) (a .1 .0) figures)
 
     nothing-polled : reply t diagnose .second ≡ 0 → reply t diagnose .first ≡ 8
-    nothing-polled z = shows .commits .unheard .1 (λ f h. let e = found f in omega arith)
+    nothing-polled z = shows .commits .unheard .1 (λ h. clash (h .1 .0 .inSet) (rw (shows .noStation .0 z) (promise .member-empty (h .0))))
 
     then-gets : reply (after t diagnose) commit .number ≡ reply t diagnose .first
-    then-gets = rw (diagnose-nothing t) (sym commits)
+    then-gets = rw (diagnose-nothing t) (sym commit-number)
 
   -- ---- right after a poll
   module _ (s : ℕ) (b : AreBytes t) (e : reply t (poll s) .number ≡ 0) where
@@ -162,9 +160,9 @@ figured t s e = go (reply t diagnose .number) refl
     go zero d = d
     go (suc k) d = let z = refusal-has-no-figures t diagnose (λ q. let y : suc k ≡ 0 = sym d ∙ q in omega arith) .1 in absurd (omega arith)
 
-up-to-date : (t : Table) (b : Book) → AreBytes t → sound t ≡ true → Follows (view t) b → UpToDate t b
+shows-current : (t : Table) (b : Book) → AreBytes t → sound t ≡ true → Follows (view t) b → ShowsCurrent t b
 unfolding view
-up-to-date t b bytes isSound inv s shown place =
+shows-current t b bytes isSound inv s shown place =
     let v = view t in
     let i = v .round .item in
     let polled = v .round .polled in
@@ -181,15 +179,14 @@ diagnose-exact =
       unsound = unsound;
       idle = idle;
       noOther = no-other;
-      commits = commits;
+      commit-number = commit-number;
       shows = shows;
-      found = found;
       closing = closing;
       nothing-polled = nothing-polled;
       unheard = unheard;
       then-gets = then-gets;
       then-finishes = λ t e z. then-gets t e ∙ z;
-      over-lists = after-lists UpToDate up-to-date;
+      over-lists = after-lists ShowsCurrent shows-current;
       book-kept = book-kept;
       poll-shows = poll-shows;
     }

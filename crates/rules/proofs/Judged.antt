@@ -13,7 +13,8 @@ use Rattle.layout.specs.Layout.{listed}
 use Rattle.layout.proofs.Sizes.{sized}
 use Rattle.layout.specs.Fields.{Kind, none, read, write, change}
 use Rattle.layout.specs.View.{State, view}
-use Rattle.rules.specs.Calls.{Call, lay, openRead, openWrite, openChange, poll, put, commit, abandon, link, reach, diagnose, isLay, isConfigSort}
+use Rattle.rules.specs.Calls.{Call, lay, openRead, openWrite, openChange, poll, put, commit, abandon, link, reach, diagnose}
+use Rattle.rules.specs.Calls.{isLay, isData, isConfigSort}
 use Rattle.rules.specs.Rules.{first, tests, refusals, numberOf, idle, wrongPut, spentAtPut}
 use Rattle.rules.specs.Figures.{figuresOf, noFigures}
 use Rattle.rules.specs.Reply.{replyOf}
@@ -21,7 +22,7 @@ use Rattle.rules.specs.Demand1.{HasFigures, of-poll, of-commit, of-reach
 use Rattle.rules.specs.Demand2.{Found}
 use Rattle.rules.specs.Needs.{Gets, numbers, Rise, RightPut, SpentAtPut, needs, Allowed, Numbers}
 use Rattle.rules.proofs.Chains.{Decides, Listed, first-fails, first-applies, exactly, gets-zero, gets-fails, gets-lowest}
-use Rattle.rules.proofs.Quorums.{passes, negated, is-spent, is-written, heard-exactly, of-every, of-none, version-found, generation-found}
+use Rattle.rules.proofs.Quorums.{passes, negated, both, is-spent, is-written, heard-exactly, of-every, of-none, version-found, generation-found}
 
 -- a lay
 pub data IsLay : Call → Type 0 where
@@ -72,14 +73,11 @@ right-put write sort q = (λ e. ⊎-elim (λ h. h) (λ h. clash (eq-eqb sort 2 h
 right-put change sort q = (λ e. tt, λ h. refl)
 
 module _ (v : State) where
-  spent-put : (f : Found v) (k : Kind) (sort : ℕ) → RightPut k sort → (spentAtPut v k sort ≡ true) ↔ SpentAtPut v f k sort
-  spent-put f none sort right = absurd right
-  spent-put f read sort right = absurd right
-  spent-put f write sort right = (λ e. (right, is-spent v f write .0 e), λ h. is-spent v f write .1 (h .1))
-  spent-put f change sort right = (
-    λ e. (eqb-true sort 2 (and-left (isConfigSort sort) _ e), is-spent v f change .0 (and-right (isConfigSort sort) _ e)),
-    λ h. and-both (isConfigSort sort) _ (eq-eqb sort 2 (h .0)) (is-spent v f change .1 (h .1)),
-  )
+  spent-put : (f : Found v) (k : Kind) (sort : ℕ) → (spentAtPut v k sort ≡ true) ↔ SpentAtPut v f k sort
+  spent-put f none sort = (λ e. clash e refl, λ z. absurd z)
+  spent-put f read sort = (λ e. clash e refl, λ z. absurd z)
+  spent-put f write sort = both (isData sort) _ (eqb-true sort 1, eq-eqb sort 1) (is-spent v f write)
+  spent-put f change sort = both (isConfigSort sort) _ (eqb-true sort 2, eq-eqb sort 2) (is-spent v f change)
 
   pub record Judged (c : Call) : Type 0 where
     pub decided : Decides (refusals v c) (needs v c)
@@ -162,7 +160,7 @@ module _ (v : State) where
                   refl,
                   passes _ (heard-exactly v),
                   λ h.
-                      (refl, right-put kind sort (q .1), λ right. (refl, of-none v h _ _ (λ f. spent-put f kind sort right), λ _. tt)),
+                      (refl, right-put kind sort (q .1), λ _. (refl, of-none v h _ _ (λ f. spent-put f kind sort), λ _. tt)),
                 ),
               ),
             ),

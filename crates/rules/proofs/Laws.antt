@@ -33,7 +33,7 @@ use Rattle.rules.specs.Demand2.{Spent, Written}
 use Rattle.rules.specs.Needs.{needs, Allowed}
 use Rattle.rules.specs.Steps.{Step}
 use Rattle.rules.specs.declared.Reply.{Reply}
-use Rattle.rules.proofs.Quorums.{is-spent, is-written, heard-exactly, of-every, of-none}
+use Rattle.rules.proofs.Quorums.{is-spent, is-written, heard-exactly, found-in, of-every, of-none}
 use Rattle.rules.proofs.Judged.{allowed}
 use Rattle.rules.proofs.States.{next, renewed, polled-sound, put-sound, closed-sound, committed-sound, link-sound, laid-sound}
 use Rattle.rules.proofs.Views.{closing-fits, opens, opens-plain, two-bytes}
@@ -175,7 +175,7 @@ module _ (t : Table) where
       record {
         isSound = f;
         held = λ b p. commit-held b a (a .0) f;
-        does = λ w r l q. commit-step v w r l (g .item) q (a .1 .1 .0 .0) (a .1 .0);
+        does = λ w r l q. commit-step v w r l (g .item) q (found-in v (a .1 .1 .0)) (a .1 .0);
         follows = λ b k. keep-commit v b k g (a .1 .0) (commit-heard a) (commit-written a);
         size = commit-size (a .0);
       }

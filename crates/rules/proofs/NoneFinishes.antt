@@ -20,7 +20,7 @@ use Rattle.rules.specs.Calls.{Call, lay, openRead, openWrite, openChange
 use Rattle.rules.specs.Reply.{reply, after}
 use Rattle.rules.specs.Lists.{AllPassable}
 use Rattle.rules.specs.ReachExact.{NoneFinishes}
-use Rattle.rules.proofs.Quorums.{is-heard}
+use Rattle.rules.proofs.Quorums.{heard-exactly}
 use Rattle.rules.proofs.Demand1.{refusal-changes-nothing}
 use Rattle.rules.proofs.Demand2.{demand2}
 use Rattle.rules.proofs.States.{next}
@@ -76,7 +76,7 @@ module _ (i these : ℕ) where
   none-finishes [] u b s h p = tt
   none-finishes (c ∷ calls) u b s h p = (
     λ e busy own inside. demand2 .open-round u s busy .unheard .1
-        (λ f x. clash (rw own at (is-heard (view u) f .1 x)) (h (rw own at (is-sound u s .item)) (view u .round .polled) inside)),
+        (λ x. clash (rw own at (heard-exactly (view u) .1 x)) (h (rw own at (is-sound u s .item)) (view u .round .polled) inside)),
     λ o. none-finishes calls (after u c) (bytes-kept u c b (p .0)) (stays-sound u c b (p .0) s) (goes (reply u c .number) refl o) (p .1),
   )
     where

@@ -10,6 +10,7 @@ use borrow.Author.Tests.{lt-ltb, ltb-true, eqb-true, eqb-false, not-true}
 use Rattle.basics.specs.Bytes.{AreBytes}
 use Rattle.basics.proofs.Tests.{clash, by-cases, and-left, and-right}
 use Rattle.quorum.specs.Sets.{member, remove}
+use Rattle.quorum.specs.Promise.{QuorumIn}
 use Rattle.quorum.proofs.Promise.{promise}
 use Rattle.layout.specs.Fields.{none}
 use Rattle.layout.specs.Soundness.{sound}
@@ -27,7 +28,6 @@ use Rattle.rules.specs.After.{done}
 use Rattle.rules.specs.Lists.{replies, afterAll, AllPassable}
 use Rattle.rules.specs.Needs.{needs, Allowed}
 use Rattle.rules.specs.Demand1.{ZeroFigures}
-use Rattle.rules.specs.Demand2.{QuorumIn}
 use Rattle.rules.specs.OffAtFirst.{onAfter, onAfterAll, Bus, links, OffAtFirst}
 use Rattle.rules.proofs.Judged.{numbered, a-round, at-station, sound-number}
 use Rattle.rules.proofs.Demand1.{refusal-changes-nothing, reply-figures}

@@ -10,6 +10,7 @@ use borrow.Author.Tests.{eqb-true, eq-eqb}
 use Rattle.basics.specs.Bytes.{AreBytes}
 use Rattle.basics.proofs.Tests.{clash, and-left, and-right, and-both, or-left, or-right}
 use Rattle.quorum.specs.Sets.{member, join}
+use Rattle.quorum.specs.Promise.{QuorumIn}
 use Rattle.quorum.specs.Configurations.{writeSet, placeFigure, holdsWrite}
 use Rattle.quorum.proofs.Promise.{promise}
 use Rattle.layout.specs.Fields.{Copy, Kind, none, read, write, change, Round}
@@ -29,7 +30,6 @@ use Rattle.rules.specs.Figures.{figuresOf, closing}
 use Rattle.rules.specs.Reply.{replyOf, reply, after}
 use Rattle.rules.specs.Lists.{replies, afterAll}
 use Rattle.rules.specs.Needs.{needs}
-use Rattle.rules.specs.Demand2.{QuorumIn}
 use Rattle.rules.specs.ReachExact.{among, AllOn, polls, puts, Opens, of-read, of-write, of-change}
 use Rattle.rules.specs.ReachExact.{Readable, AllDone, lastFigure, PollsSay, Closes, SpentOn}
 use Rattle.rules.proofs.Judged.{numbered, a-round}

@@ -23,7 +23,7 @@ use Rattle.rules.specs.Reply.{reply, after}
 use Rattle.rules.specs.Lists.{AllPassable}
 use Rattle.rules.specs.Needs.{needs, Allowed}
 use Rattle.rules.specs.ReachExact.{StaysUnheard}
-use Rattle.rules.proofs.Quorums.{is-heard, heard-exactly}
+use Rattle.rules.proofs.Quorums.{heard-exactly}
 use Rattle.rules.proofs.Demand1.{refusal-changes-nothing}
 use Rattle.rules.proofs.Demand2.{demand2}
 use Rattle.rules.proofs.States.{next}
@@ -123,7 +123,7 @@ module _ (i : ℕ) where
   stays [] u b s h p = tt
   stays (c ∷ calls) u b s h p = (
     λ e busy own. demand2 .open-round u s busy .unheard .1
-        (λ f x. clash (is-heard (view u) f .1 x) (silent-unheard (view u) h (is-sound u s .item) busy own)),
+        (λ x. clash (heard-exactly (view u) .1 x) (silent-unheard (view u) h (is-sound u s .item) busy own)),
     λ fewer. stays calls (after u c) (bytes-kept u c b (p .0)) (stays-sound u c b (p .0) s) (goes (reply u c .number) refl fewer) (p .1),
   )
     where

@@ -8,15 +8,13 @@ use native.Mathlib.Omega.{arith}
 use borrow.Author.Tests.{eqb-true, eq-eqb, not-false}
 use Rattle.basics.proofs.Tests.{clash, either, fails, and-left, and-right, and-both}
 use Rattle.quorum.specs.Configurations.{firstRead, placeFigure, holdsRead}
-use Rattle.quorum.specs.declared.Place.the-variants.{At}
 use Rattle.quorum.proofs.Promise.{promise}
 use Rattle.layout.specs.Fields.{Kind, none, read, write, change}
 use Rattle.layout.specs.Newest.{byGeneration, heardPlace, hears}
 use Rattle.layout.specs.View.{State, own, foundByVersion, foundByGeneration, heard}
 use Rattle.layout.proofs.Newer.{by-version, by-generation, heard-finds}
 use Rattle.rules.specs.Rules.{spent, written}
-use Rattle.rules.specs.Demand2.{Found, Heard, HeardBy, Spent, Written}
-use Rattle.rules.specs.Needs.{HeardRound}
+use Rattle.rules.specs.Demand2.{Found, Heard, HeardBy, HeardRound, Spent, Written}
 use Rattle.rules.specs.Steps.{PlaceShown}
 
 -- ---- tests that decide a condition
@@ -26,15 +24,15 @@ negated b p = (λ e a. clash (p .1 a) e, λ h. fails b (λ e. h (p .0 e)))
 pub passes : (b : Bool) {A : Type 0} → (b ≡ true) ↔ A → (not b ≡ false) ↔ A
 passes b p = (λ e. p .0 (not-false b e), λ a. ap not (p .1 a))
 
-both : (a b : Bool) {A B : Type 0} → (a ≡ true) ↔ A → (b ≡ true) ↔ B → ((a && b) ≡ true) ↔ (A × B)
+pub both : (a b : Bool) {A B : Type 0} → (a ≡ true) ↔ A → (b ≡ true) ↔ B → ((a && b) ≡ true) ↔ (A × B)
 both a b p q = (λ e. (p .0 (and-left a b e), q .0 (and-right a b e)), λ h. and-both a b (p .1 (h .0)) (q .1 (h .1)))
 
 -- ---- the figure of the first read place: 0 exactly if no read set is held
 module _ (c : List ℕ) (set : ℕ) where
   pub no-place-figure : (placeFigure (firstRead c set) ≡ 0) ↔ (holdsRead c set ≡ false)
   no-place-figure = (
-    λ e. promise .no-first-read c set .0 (promise .figure-nowhere (firstRead c set) .0 e),
-    λ e. promise .figure-nowhere (firstRead c set) .1 (promise .no-first-read c set .1 e),
+    λ e. promise .no-place (firstRead c set) .1 (promise .figure-nowhere (firstRead c set) .0 e),
+    λ e. promise .figure-nowhere (firstRead c set) .1 (promise .no-place (firstRead c set) .0 e),
   )
 
   pub a-place-figure : (1 ≤ placeFigure (firstRead c set)) ↔ (holdsRead c set ≡ true)
@@ -53,9 +51,6 @@ module _ (c : List ℕ) (set : ℕ) where
       go : (x : ℕ) → placeFigure (firstRead c set) ≡ x → x ≤ 8
       go zero e = omega arith
       go (suc k) e = let f = promise .first-read c set k .0 (promise .figure-at (firstRead c set) k .0 e) .0 in omega arith
-
-  some-place : {k : ℕ} → firstRead c set ≡ At k → holdsRead c set ≡ true
-  some-place {k} e = a-place-figure .0 (rw (promise .figure-at (firstRead c set) k .1 e) (omega arith))
 
 module _ (v : State) where
   -- a round that is heard has found something
@@ -89,10 +84,7 @@ module _ (v : State) where
         rw generation-found (both _ _ (promise .holds-write (v .round .target) (v .round .dataPuts))
         (promise .holds-write (own v (f .g) .config) (v .round .configPuts)))
 
-  pub heard-exactly : (heard v ≡ true) ↔ HeardRound v
-  heard-exactly = (λ e. let f = found e in (f, is-heard f .0 e), λ h. is-heard (h .0) .1 (h .1))
-
-  -- the same of any item and any stations
+  -- any item and any stations, and the open round
   pub heard-by : (i set : ℕ) → (hears (v .copies i) set (v .n) ≡ true) ↔ ((g : ℕ) × HeardBy v i set g)
   unfolding hears
   heard-by i set = (
@@ -100,6 +92,12 @@ module _ (v : State) where
         (f .g, (f .newestGeneration, promise .holds-read (v .copies i (f .g) .config) set .0 (rw (f .generation) at e))),
     λ h. rw (by-generation (v .copies i) set (v .n) (h .0) (h .1 .0)) (promise .holds-read (v .copies i (h .0) .config) set .1 (h .1 .1)),
   )
+
+  pub heard-exactly : (heard v ≡ true) ↔ HeardRound v
+  heard-exactly = heard-by (v .round .item) (v .round .polled)
+
+  pub found-in : HeardRound v → Found v
+  found-in h = found (heard-exactly .1 h)
 
   -- the read place that is shown
   module _ (i set : ℕ) where
@@ -110,9 +108,9 @@ module _ (v : State) where
     unfolding hears
     place-shown =
         record {
-          held = λ k. (
+          place = λ k. (
             λ e. let at-k = promise .figure-at (firstRead config set) k .0 e in
-                let f = heard-finds (v .copies i) set (v .n) (some-place config set at-k) in
+                let f = heard-finds (v .copies i) set (v .n) (promise .a-place (firstRead config set) .1 (k, at-k)) in
                 (f .g, f .newestGeneration, rw (config, f .generation) at (promise .first-read config set k .0 at-k)),
             λ h. promise .figure-at (firstRead config set) k .1
                 (rw (config, by-generation (v .copies i) set (v .n) (h .0) (h .1)) (promise .first-read (v .copies i (h .0) .config) set k .1 (h .2))),
@@ -124,10 +122,10 @@ module _ (v : State) where
           );
         }
 
-  -- a test by what a heard round has found: what it finds is one
+  -- a test by what a heard round has found: it has found one thing
   module _ (h : HeardRound v) (b : Bool) (C : Found v → Type 0) (e : (f : Found v) → (b ≡ true) ↔ C f) where
     pub of-every : (b ≡ true) ↔ ((f : Found v) → C f)
-    of-every = (λ p f. e f .0 p, λ c. e (h .0) .1 (c (h .0)))
+    of-every = (λ p f. e f .0 p, λ c. let f = found-in h in e f .1 (c f))
 
     pub of-none : (b ≡ false) ↔ ((f : Found v) → C f → ⊥)
-    of-none = (λ p f. negated b (e f) .0 p, λ c. negated b (e (h .0)) .1 (c (h .0)))
+    of-none = (λ p f. negated b (e f) .0 p, λ c. let f = found-in h in negated b (e f) .1 (c f))

@@ -10,7 +10,7 @@ use lib.Dec.{eqb}
 use Rattle.basics.specs.Bytes.{AreBytes}
 use Rattle.basics.proofs.Tests.{clash, fails}
 use Rattle.quorum.specs.Configurations.{writeSet, valid}
-use Rattle.quorum.specs.Promise.{_⊆_}
+use Rattle.quorum.specs.Promise.{QuorumIn, _⊆_}
 use Rattle.quorum.proofs.Promise.{promise}
 use Rattle.layout.specs.Layout.{tableLength}
 use Rattle.layout.specs.Fields.{none}
@@ -28,7 +28,7 @@ use Rattle.rules.specs.Lists.{afterAll}
 use Rattle.rules.specs.Book.{Book, entry, step, fed}
 use Rattle.rules.specs.Needs.{needs}
 use Rattle.rules.specs.Steps.{SameCopies}
-use Rattle.rules.specs.Demand2.{QuorumIn, HeardBy}
+use Rattle.rules.specs.Demand2.{HeardBy}
 use Rattle.rules.specs.ReachExact.{AllOn, polls, Readable, OutOfReach, DoneGiving, OverLists, ReachExact}
 use Rattle.rules.proofs.Quorums.{heard-by}
 use Rattle.rules.proofs.Judged.{numbered}

@@ -9,6 +9,7 @@ use lib.Dec.{ltb}
 use borrow.Author.Tests.{eq-eqb, ne-eqb}
 use Rattle.basics.proofs.Tests.{clash}
 use Rattle.quorum.specs.Sets.{member, join, remove, full}
+use Rattle.quorum.specs.Promise.{QuorumIn}
 use Rattle.quorum.specs.Configurations.{writeSet, placeFigure, holdsWrite}
 use Rattle.quorum.proofs.Promise.{promise}
 use Rattle.layout.specs.Fields.{Kind, none, read, write, change, Round}
@@ -24,7 +25,7 @@ use Rattle.layout.proofs.Stored.{stored}
 use Rattle.rules.specs.Calls.{lay, poll, put, commit, link, reach, diagnose}
 use Rattle.rules.specs.Figures.{figuresOf, closing}
 use Rattle.rules.specs.After.{stores}
-use Rattle.rules.specs.Demand2.{QuorumIn, Found, HeardBy}
+use Rattle.rules.specs.Demand2.{Found, HeardBy}
 use Rattle.rules.specs.Steps.{Joined, Removed, SameCopies, SameOrder, Fresh, Laid, Opened}
 use Rattle.rules.specs.Steps.{OwnPlaceShown, Polled, Put, Linked, Closing, Committed, Reached, Diagnosed}
 use Rattle.rules.specs.declared.Reply.{Reply}

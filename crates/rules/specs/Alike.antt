@@ -1,6 +1,6 @@
 -- The reply to a call and the state after it hang on the state alone, and of the copies only on those that there are. So tables of bytes that look
 -- alike get the same replies to every list of calls that can be passed, and look alike after it. (Sound tables that look alike are the same bytes:
--- TableFacts.antt of the layout. `same-reply` is the one for states of tables that are laid out in different ways.)
+-- TableFacts.antt of the layout. `same-reply` is of states, and says nothing of bytes.)
 use mathlib.Core.Path.{_≡_}
 use mathlib.Core.Bool.{true}
 use mathlib.Core.List.{List}

@@ -40,7 +40,7 @@ finish items (write i value) = set items i (record { value = value; writes = ent
 finish items (change i) =
     set items i (record { value = entry items i .value; writes = entry items i .writes; changes = entry items i .changes + 1 })
 
--- the steps "for number 0"; of a call that a request adds, it "leaves the book as it was unless a step is given there" (document 01)
+-- the steps "for number 0"; a call that a request adds "leaves the book as it was unless a step is given there" (document 01)
 abbrev pub step : Book → Call → Book
 step b (lay n m value config) = record { items = replicate 32 (started value); noted = none }
 step b (openRead i) = record { items = b .items; noted = read i }

@@ -7,8 +7,7 @@ use mathlib.Core.Bool.{true, false}
 use mathlib.Core.Logic.{_↔_, _⊎_}
 use Prim.Native.Nat.{ℕ, _-_, _^_}
 use Rattle.quorum.specs.Configurations.{readSet, writeSet}
-use Rattle.basics.specs.Tests.{Some}
-use Rattle.quorum.specs.Promise.{LiesIn}
+use Rattle.quorum.specs.Promise.{QuorumIn}
 use Rattle.layout.specs.Newest.{IsNewest}
 use Rattle.layout.specs.Fields.{Copy, Kind, none, read, write, change}
 use Rattle.layout.specs.Soundness.{sound}
@@ -16,11 +15,7 @@ use Rattle.layout.specs.View.{Table, State, view, own}
 use Rattle.rules.specs.Calls.{commit}
 use Rattle.rules.specs.Reply.{reply}
 
--- some set of a side lies within a station set
-abbrev pub QuorumIn : (ℕ → ℕ) → ℕ → Type 0
-QuorumIn side set = Some 8 (LiesIn side set)
-
--- what an open round has found: the stations with its newest generation and its newest version
+-- what an open round has found: the station g with its newest generation and the station b with its newest version
 pub record Found (v : State) : Type 0 where
   pub g : ℕ
   pub b : ℕ
@@ -31,13 +26,17 @@ pub record Found (v : State) : Type 0 where
 abbrev pub ReadQuorum : (ℕ → Copy) → ℕ → ℕ → Type 0
 ReadQuorum copies g set = QuorumIn (readSet (copies g .config)) set
 
--- a read quorum of the configuration found lies within the polled set
-abbrev pub Heard : (v : State) → Found v → Type 0
-Heard v f = ReadQuorum (own v) (f .g) (v .round .polled)
-
--- the same of any item and any station set: polling it finds the configuration of station g, and is heard
+-- of any item and any station set: polling it finds the configuration of station g, and is heard
 abbrev pub HeardBy : State → ℕ → ℕ → ℕ → Type 0
 HeardBy v i set g = IsNewest (λ s. v .copies i s .generation) set (v .n) g × ReadQuorum (v .copies i) g set
+
+-- of the open round: a read quorum of the configuration found lies within the polled set
+abbrev pub HeardRound : State → Type 0
+HeardRound v = (g : ℕ) × HeardBy v (v .round .item) (v .round .polled) g
+
+-- the same where it is also said what the round has found
+abbrev pub Heard : (v : State) → Found v → Type 0
+Heard v f = ReadQuorum (own v) (f .g) (v .round .polled)
 
 -- the counter that the round must raise is spent
 abbrev pub Spent : (v : State) → Found v → Kind → Type 0
@@ -57,14 +56,14 @@ Written v f change =
     QuorumIn (writeSet (v .round .target)) (v .round .dataPuts) × QuorumIn (writeSet (own v (f .g) .config)) (v .round .configPuts)
 
 -- commit's number on a sound table with an open round, by these conditions
-pub record Commits (v : State) (k : Kind) (number : ℕ) : Type 0 where
-  pub finished : (number ≡ 0) ↔ ((f : Found v) × Heard v f × (Spent v f k → ⊥) × Written v f k)
-  pub unheard : (number ≡ 8) ↔ ((f : Found v) → Heard v f → ⊥)
-  pub spent : (number ≡ 10) ↔ ((f : Found v) × Heard v f × Spent v f k)
-  pub short : (number ≡ 11) ↔ ((f : Found v) × Heard v f × (Spent v f k → ⊥) × (Written v f k → ⊥))
+pub record Commits (v : State) (number : ℕ) : Type 0 where
+  pub finished : (number ≡ 0) ↔ ((f : Found v) × Heard v f × (Spent v f (v .round .kind) → ⊥) × Written v f (v .round .kind))
+  pub unheard : (number ≡ 8) ↔ (HeardRound v → ⊥)
+  pub spent : (number ≡ 10) ↔ ((f : Found v) × Heard v f × Spent v f (v .round .kind))
+  pub short : (number ≡ 11) ↔ ((f : Found v) × Heard v f × (Spent v f (v .round .kind) → ⊥) × (Written v f (v .round .kind) → ⊥))
   pub noOther : (number ≡ 0) ⊎ ((number ≡ 8) ⊎ ((number ≡ 10) ⊎ (number ≡ 11)))
 
 pub record Demand2 : Type 0 where
-  pub open-round : (t : Table) → sound t ≡ true → (view t .round .kind ≡ none → ⊥) → Commits (view t) (view t .round .kind) (reply t commit .number)
+  pub open-round : (t : Table) → sound t ≡ true → (view t .round .kind ≡ none → ⊥) → Commits (view t) (reply t commit .number)
   pub no-round : (t : Table) → sound t ≡ true → view t .round .kind ≡ none → reply t commit .number ≡ 5
   pub unsound : (t : Table) → sound t ≡ false → reply t commit .number ≡ 1

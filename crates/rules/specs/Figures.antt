@@ -4,8 +4,8 @@ use Prim.Native.Nat.{ℕ, _+_}
 use Rattle.quorum.specs.Configurations.{placeFigure, holdsWrite}
 use Rattle.layout.specs.Rounds.{withPoll}
 use Rattle.layout.specs.Fields.{Copy, Kind, none, read, write, change}
-use Rattle.layout.specs.Newest.{versionStation, stationFigure, byGeneration, heardPlace, hears}
-use Rattle.layout.specs.View.{State, onBus, own, foundByVersion, foundByGeneration, readPlace}
+use Rattle.layout.specs.Newest.{stationFigure, byGeneration, heardPlace, hears}
+use Rattle.layout.specs.View.{State, onBus, own, foundByVersion, foundByGeneration, versionFrom, readPlace}
 use Rattle.rules.specs.Calls.{Call, lay, openRead, openWrite, openChange, poll, put, commit, abandon, link, reach, diagnose}
 use Rattle.rules.specs.Rules.{numberOf}
 
@@ -43,7 +43,7 @@ abbrev pub diagnosis : State → Figures
 diagnosis v =
     record {
       first = numberOf v commit;
-      second = stationFigure (versionStation (own v) (v .round .polled) (v .n));
+      second = stationFigure (versionFrom v);
       third = placeFigure (readPlace v);
     }
 

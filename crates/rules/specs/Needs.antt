@@ -1,4 +1,5 @@
--- What each call needs, by facts about the state, and the number that it gets where one of them fails (document 01, the table of numbers).
+-- What each call needs, by facts about the state, and the number that it gets where one of them fails (document 01, the table of numbers; diagnose is
+-- document 02's, 2026-04).
 -- What a round has found, its quorums and its counters are by quantifiers, as in Demand2.antt. Of the store's own tests two are named: soundness, whose
 -- facts are in SoundFacts.antt of the layout, and that a lay's length fits (`fits` of its View.antt).
 -- A call is refused only where a fact of its list fails. That rules out "every call refused", one of document 01's "Versions that fail".
@@ -15,7 +16,7 @@ use Rattle.layout.specs.View.{Table, State, view, own, foundByVersion, foundByG
 use Rattle.rules.specs.Calls.{Call, lay, openRead, openWrite, openChange, poll, put, commit, abandon, link, reach, diagnose}
 use Rattle.rules.specs.Calls.{isLay, dataSort, configSort, offState, onState}
 use Rattle.rules.specs.Reply.{reply}
-use Rattle.rules.specs.Demand2.{Found, Heard, Spent, Written}
+use Rattle.rules.specs.Demand2.{Found, HeardRound, Spent, Written}
 
 -- facts with their numbers, in the order in which they are asked for
 abbrev pub Needs : Type 1
@@ -45,10 +46,6 @@ Rise low [] = Unit {0}
 Rise low (k ∷ rest) = (low < k) × Rise k rest
 
 -- ---- the facts
--- 8: the round has found a configuration of which the polled set holds a read quorum
-abbrev pub HeardRound : State → Type 0
-HeardRound v = (f : Found v) × Heard v f
-
 -- 9: "a put in a read, a configuration put in a write" is wrong. With no round this is never asked, here and below: idle comes first.
 abbrev pub RightPut : Kind → ℕ → Type 0
 RightPut none sort = ⊥

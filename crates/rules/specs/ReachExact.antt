@@ -1,9 +1,9 @@
--- Reach is exact (document 02, 2026-03). On every sound table with no open round its figure says what a round that polls all stations on the bus can do.
--- After an opening of the item and these polls it is heard exactly if the figure is 1 or 3. With data puts at all of them a write finishes exactly if it is 3
--- and no copy of the item among them has a spent version; with both puts a change finishes exactly if it is 3, they hold a write set of its target, and no
--- copy has a spent generation. Over every list of demand 3 it speaks of rounds that poll a part of them too: where it is 0 none is heard, so that none
--- finishes; where it is 1 none of them finds a configuration whose write sets they hold. And where it is 1 or 3, the read that polls them all gives the
--- book's figures.
+-- Reach is exact (document 02, 2026-03). On every sound table of bytes with no open round its figure says what a round that polls all stations on the bus can
+-- do. After an opening of the item and these polls it is heard exactly if the figure is 1 or 3. With data puts at all of them a write finishes exactly if it
+-- is 3 and no copy of the item among them has a spent version; with both puts a change finishes exactly if it is 3, they hold a write set of its target, and
+-- no copy has a spent generation. Over every list of demand 3 it speaks of rounds that poll a part of them too: where it is 0 none is heard, so that none
+-- finishes; where it is 1 none of them finds a configuration whose write sets they hold. And where it is 1 or 3, the read that polls them all gives the book's
+-- figures.
 use mathlib.Core.Path.{_≡_}
 use mathlib.Core.Bool.{Bool, true, false, _||_}
 use mathlib.Core.List.{List, [], _∷_, _++_}
@@ -13,7 +13,7 @@ use lib.Dec.{eqb}
 use Rattle.basics.specs.Bytes.{AreBytes}
 use Rattle.quorum.specs.Sets.{member}
 use Rattle.quorum.specs.Configurations.{writeSet}
-use Rattle.quorum.specs.Promise.{_⊆_}
+use Rattle.quorum.specs.Promise.{QuorumIn, _⊆_}
 use Rattle.layout.specs.Fields.{Copy, none, change}
 use Rattle.layout.specs.Soundness.{sound}
 use Rattle.layout.specs.View.{Table, State, view, onBus}
@@ -23,7 +23,7 @@ use Rattle.rules.specs.Passed.{Passable}
 use Rattle.rules.specs.Reply.{reply, after}
 use Rattle.rules.specs.Lists.{replies, afterAll, AllPassable}
 use Rattle.rules.specs.Book.{Book, Entry, entry, Gives, fedAll}
-use Rattle.rules.specs.Demand2.{QuorumIn, HeardBy}
+use Rattle.rules.specs.Demand2.{HeardBy}
 use Rattle.rules.specs.Steps.{SameCopies, PlaceShown}
 use Rattle.rules.specs.declared.Reply.{Reply}
 

@@ -68,11 +68,11 @@ spent v read = false
 spent v write = last (foundByVersion v .version)
 spent v change = last (foundByGeneration v .generation)
 
--- a data put of a change raises no counter; a configuration put in a write has got 9 before
+-- a data put of a change raises no counter
 abbrev pub spentAtPut : State → Kind → ℕ → Bool
 spentAtPut v none sort = false
 spentAtPut v read sort = false
-spentAtPut v write sort = spent v write
+spentAtPut v write sort = isData sort && spent v write
 spentAtPut v change sort = isConfigSort sort && spent v change
 
 -- "A write needs data puts that hold a write set of the found configuration. A change needs data puts that hold a write set

@@ -12,7 +12,7 @@ use lib.Dec.{ltb, eqb}
 use Rattle.basics.specs.Bytes.{AreBytes}
 use Rattle.quorum.specs.Sets.{member}
 use Rattle.quorum.specs.Configurations.{readSet, writeSet}
-use Rattle.quorum.specs.Promise.{FirstIn}
+use Rattle.quorum.specs.Promise.{QuorumIn, FirstIn}
 use Rattle.layout.specs.Fields.{Kind, none, read, write, change, Round}
 use Rattle.layout.specs.Newest.{IsNewest}
 use Rattle.layout.specs.View.{Table, State, view, onBus, own}
@@ -21,7 +21,7 @@ use Rattle.rules.specs.Calls.{Call, lay, openRead, openWrite, openChange
 use Rattle.rules.specs.Calls.{dataSort, configSort, offState, onState}
 use Rattle.rules.specs.Passed.{Passable}
 use Rattle.rules.specs.Reply.{reply, after}
-use Rattle.rules.specs.Demand2.{QuorumIn, Found, HeardBy, Commits}
+use Rattle.rules.specs.Demand2.{Found, HeardBy, Commits}
 use Rattle.rules.specs.declared.Reply.{Reply}
 
 -- ---- sets: b is a with station s, and b is a without it
@@ -75,7 +75,7 @@ pub record Opened (v w : State) (k : Kind) (i x : ℕ) (l : List ℕ) : Type 0 w
 -- ---- the read place, document 02, 2026-04: "one plus that place, or 0". The figure is one plus the first read place whose set lies within a station set, of
 -- the configuration that polling this set finds for an item; 0 if there is none, and then polling the set is not heard.
 pub record PlaceShown (v : State) (i set figure : ℕ) : Type 0 where
-  pub held : (k : ℕ) → (figure ≡ suc k)
+  pub place : (k : ℕ) → (figure ≡ suc k)
       ↔ ((g : ℕ) × IsNewest (λ s. v .copies i s .generation) set (v .n) g × FirstIn (readSet (v .copies i g .config)) set k)
   pub heard : (1 ≤ figure) ↔ ((g : ℕ) × HeardBy v i set g)
   pub unheard : (figure ≡ 0) ↔ ((g : ℕ) → HeardBy v i set g → ⊥)
@@ -144,8 +144,9 @@ pub record Committed (v w : State) (r : Reply) : Type 0 where
 -- ---- reach, document 02, 2026-03: "judged by what polling every station on the bus finds: 1 if that is heard, 3 if they also hold a write set of the
 -- configuration found, else 0". What that means for rounds is in ReachExact.antt.
 pub record Reached (v : State) (i : ℕ) (r : Reply) : Type 0 where
-  -- the stations on the bus; polling them finds the configuration of a station g, and nothing where there are none, so that the figure is 0
+  -- the stations on the bus
   pub isOn : (s : ℕ) → member (onBus v) s ≡ (ltb s (v .n) && not (member (v .off) s))
+  -- polling them finds the configuration of a station g, and nothing where there are none, so that the figure is 0
   pub unheard : (r .first ≡ 0) ↔ ((g : ℕ) → HeardBy v i (onBus v) g → ⊥)
   pub readsOnly : (r .first ≡ 1) ↔ ((g : ℕ) × HeardBy v i (onBus v) g × (QuorumIn (writeSet (v .copies i g .config)) (onBus v) → ⊥))
   pub writes : (r .first ≡ 3) ↔ ((g : ℕ) × HeardBy v i (onBus v) g × QuorumIn (writeSet (v .copies i g .config)) (onBus v))
@@ -154,7 +155,7 @@ pub record Reached (v : State) (i : ℕ) (r : Reply) : Type 0 where
 -- ---- diagnose, document 02, 2026-04: "the number commit would give now; one plus the station that gave the version, or 0; one plus the read place, or
 -- 0". That the number is commit's own is in DiagnoseExact.antt.
 pub record Diagnosed (v : State) (r : Reply) : Type 0 where
-  pub commits : Commits v (v .round .kind) (r .first)
+  pub commits : Commits v (r .first)
   -- of the polled stations the lowest that has the greatest version, heard or not; none exactly if nothing is polled
   pub station : (s : ℕ) → (r .second ≡ suc s) ↔ IsNewest (λ k. own v k .version) (v .round .polled) (v .n) s
   pub noStation : (r .second ≡ 0) ↔ (v .round .polled ≡ 0)

@@ -1,8 +1,6 @@
 -- Worked examples, computed: lines, and the whole runs of FrameCases.antt.
 use mathlib.Core.Path.{_≡_, refl}
-use mathlib.Core.List.{List, [], _∷_, _++_}
-use Prim.Native.Nat.{ℕ}
-use Prim.Native.String.{String}
+use mathlib.Core.List.{[], _∷_}
 use Rattle.basics.specs.Bytes.{littleEndian, bytesOf, over}
 use Rattle.basics.specs.Tests.{all, allBelow, anyBelow}
 use Rattle.quorum.specs.Sets.{member, used, holds, shares, within, join, minus, remove, full}
@@ -25,7 +23,7 @@ use Rattle.runs.specs.Run.{answers, run}
 use Rattle.frames.specs.Hex.{isDigit, allDigits, valueOf, byteOf, bytesIn, digitOf, hexOf}
 use Rattle.dispatch.specs.Dispatch.{frameLength, callsOf, callAt}
 use Rattle.frames.specs.Frame.{callByte, isFrame, callOf}
-use Rattle.runs.specs.FrameCases.{shown, frameCase, frameReplies, refusedCase, refusedReplies, FrameCases}
+use Rattle.runs.specs.FrameCases.{shown, frameCase, frameReplies, mixedCase, mixedReplies, FrameCases}
 use Rattle.runs.specs.Lines.{inFront, linesOf}
 use Rattle.frames.specs.Text.{chars, text}
 
@@ -41,5 +39,5 @@ unfolding text chars shown littleEndian isDigit allDigits valueOf byteOf bytesIn
     figuresOf done tableLength address sound soundness roundSound copiesValid all allBelow anyBelow valid validity setAt readSet writeSet usedFirst
     someUsed allWithin sharesAll allShare holdsPlace firstPlace orElse firstRead firstWrite placeFigure isPlace member used holds shares within join
     minus remove full copyFrom bytesOf over setOff setPolled setPuts setRound putData putConfig copyBytes repeated putCopies newest byVersion
-    byGeneration hears frameCase frameReplies refusedCase refusedReplies
+    byGeneration hears frameCase frameReplies mixedCase mixedReplies
 frame-cases = refl

@@ -42,8 +42,8 @@ frameReplies = shown
 -- before a lay succeeds the table is empty; lines that are no frames; after a lay nothing is reached, and a poll gets 6 until its station's link; a
 -- lay that is refused, with n = 0 or a false configuration, keeps the table. Call 0B (document 02, 2026-04) has no argument; with no round it gets 5; with
 -- station 1 polled commit would get 8, and with 1 and 2, which hold the third read place, it would be done
-unfoldable pub refusedCase : List ℕ
-refusedCase = shown
+unfoldable pub mixedCase : List ℕ
+mixedCase = shown
     ("07"
     ∷ "0B"
     ∷ "zz"
@@ -67,8 +67,8 @@ refusedCase = shown
     ∷ "0A00"
     ∷ [])
 
-unfoldable pub refusedReplies : List ℕ
-refusedReplies = shown
+unfoldable pub mixedReplies : List ℕ
+mixedReplies = shown
     ("0701000000000000000000000000000000000000000000000000"
     ∷ "0B01000000000000000000000000000000000000000000000000"
     ∷ "000C000000000000000000000000000000000000000000000000"
@@ -93,4 +93,4 @@ refusedReplies = shown
     ∷ [])
 
 abbrev pub FrameCases : Type 0
-FrameCases = run frameCase ∷ run refusedCase ∷ [] ≡ frameReplies ∷ refusedReplies ∷ []
+FrameCases = run frameCase ∷ run mixedCase ∷ [] ≡ frameReplies ∷ mixedReplies ∷ []

@@ -68,7 +68,7 @@ unfolding view
 change-reply-requires c κs =
     let told = c .before .before .before in
     let start = called (told .before .before) in
-    let changes = is-change (kind-is start) (found told .isOpen) (c .before .if1 .left) (c .if2 .left) in
+    let changes = is-change (kind-is start) (found told .isOpen .1) (c .before .if1 .left) (c .if2 .left) in
     ((found told, changes), start .pre .1)
 
 returns-4 : tie.Need-returns-4

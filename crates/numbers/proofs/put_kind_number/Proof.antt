@@ -1,13 +1,14 @@
 use mathlib.Core.Path.{_≡_, sym, _∙_}
-use mathlib.Core.Bool.{Bool, cond}
+use mathlib.Core.Bool.{Bool, true, false, cond}
 use Prim.Native.Nat.{ℕ}
 use lib.ListN.{drop}
-use borrow.Author.Tests.{eq-eqb, ne-eqb}
+use borrow.Author.Tests.{eq-eqb, ne-eqb, not-false}
+use Rattle.basics.proofs.Tests.{clash, or-cases}
 use Rattle.layout.specs.Fields.{change}
 use Rattle.layout.specs.View.{view}
 use Rattle.layout.proofs.Soundness.{sound-head}
-use Rattle.rules.specs.Calls.{put}
-use Rattle.rules.specs.Rules.{first, tests}
+use Rattle.rules.specs.Calls.{put, isData, isConfigSort}
+use Rattle.rules.specs.Rules.{first, noSort, tests}
 use Rattle.numbers.proofs.Refusals.{is-kind, is-change}
 use Rattle.numbers.proofs.put_kind_number.Statement.{statement}
 use Rattle.numbers.proofs.put_kind_number.Tie as tie
@@ -19,6 +20,10 @@ called c = c .before .before
 abbrev last-tests : tie.Start → ℕ
 last-tests c = first (drop 4 (tests (view ((c .args .t) .now)) (put 0 (c .args .sort))))
 
+-- a listed sort that is not the configuration's is data's
+data-sort : (sort : ℕ) → noSort sort ≡ false → isConfigSort sort ≡ false → isData sort ≡ true
+data-sort sort e f = or-cases (isData sort) (isConfigSort sort) (not-false _ e) (λ d. d) (λ c. clash c f)
+
 -- in a write, a data put: by the test of the version found
 data-put : (c : tie.After-version-spent) {r : Bool} → c .version-spent .result ≡ r → last-tests (called (c .before .before .before .before)) ≡ cond r 10 0
 unfolding tests first view
@@ -26,7 +31,9 @@ data-put c e =
     let sort = c .before in
     let write = sort .before in
     let kind = write .before .before in
-    rw (is-kind 2 (kind .kind .ensures) (write .if2 .taken), ne-eqb _ _ (sort .if3 .left), sym (c .version-spent .ensures) ∙ e)
+    let no-config = ne-eqb _ _ (sort .if3 .left) in
+    let is-data = data-sort (called kind .args .sort) (called kind .pre .2) no-config in
+    rw (is-kind 2 (kind .kind .ensures) (write .if2 .taken), no-config, is-data, sym (c .version-spent .ensures) ∙ e)
 
 -- what is neither a read nor a write is a change
 changes : (c : tie.Else2) → view ((called (c .before .before) .args .t) .now) .round .kind ≡ change

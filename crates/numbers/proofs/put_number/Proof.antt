@@ -120,7 +120,8 @@ put-kind-number-requires : tie.Need-put-kind-number-requires
 unfolding view
 put-kind-number-requires c κs =
     let kind = at-heard (c .before) .before .before .before in
-    (at-kind kind .pre, a-round _ .0 (is-open (kind .before .kind .ensures) (kind .if3 .left)))
+    let sort = kind .before .before in
+    (at-kind kind .pre, a-round _ .0 (is-open (kind .before .kind .ensures) (kind .if3 .left)), turned (sort .before .is-either .ensures) (sort .if2 .left))
 
 returns-6 : tie.Need-returns-6
 unfolding tests first

@@ -4,7 +4,7 @@ use mathlib.Core.Path.{_≡_, sym, _∙_}
 use Rattle.basics.specs.Tests.{anyBelow}
 use Rattle.quorum.specs.Configurations.{setAt, holdsPlace}
 use Rattle.sets.specs.Inner.{firstHeld}
-use Rattle.quorum.proofs.Promise.{promise}
+use Rattle.sets.proofs.Sides.{some-place}
 use Rattle.basics.proofs.Tests.{any-start, any-turn, any-end}
 use Rattle.sets.proofs.any_held.Statement.{statement}
 use Rattle.sets.proofs.any_held.Tie as tie
@@ -36,7 +36,7 @@ loop-again c = (search needs, any-turn _ _ (c .before .before .loop .inv .1) (c 
 returns : tie.Need-returns Inv-loop μ-loop
 unfolding firstHeld
 returns c =
-    any-end _ 8 _ (c .before .loop .inv .0) (c .loop-test .left) (c .before .loop .inv .1) ∙ sym (promise .some-place _ 8)
+    any-end _ 8 _ (c .before .loop .inv .0) (c .loop-test .left) (c .before .loop .inv .1) ∙ sym (some-place _ 8)
 
 pub any-held-spec : {M : Type 1} → statement M
 any-held-spec =

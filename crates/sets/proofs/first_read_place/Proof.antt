@@ -14,7 +14,7 @@ returns c = c .first-held .ensures ∙ first-of-read _ _
 returns-2 : tie.Need-returns-2
 returns-2 c =
     let a = c .before .before .args in
-    sym (promise .no-first-read (a .config .now) (a .set) .1 (promise .short-read (a .config .now) (a .set) (c .if1 .left)))
+    sym (promise .no-place _ .0 (promise .short-read (a .config .now) (a .set) (c .if1 .left)))
 
 pub first-read-place-spec : {M : Type 1} → statement M
 first-read-place-spec = tie.close (tie.spec first-held-requires returns returns-2)
