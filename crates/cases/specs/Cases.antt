@@ -191,8 +191,10 @@ table =
     ∷ row (openRead 0 ∷ diagnose ∷ []) 0 8 0 0
     ∷ row (openRead 0 ∷ poll 2 ∷ diagnose ∷ []) 0 8 3 0
     ∷ row (openWrite 0 510 ∷ poll 0 ∷ diagnose ∷ []) 0 8 1 0
-    -- the place is that of the newest configuration: 0 and 1 hold a pair, but know the change to 0004
-    ∷ row (changes ++ round (openRead 0) (diagnose ∷ [])) 0 8 1 0
+    -- the place is that of the newest configuration: 0 and 1 hold a pair, but know the change to 0004. Station 1 gave the version, 0 has an older one
+    ∷ row (round (openWrite 0 510) (dataPut 1 ∷ dataPut 2 ∷ commit ∷ changes ++ round (openRead 0) (diagnose ∷ []))) 0 8 2 0
+    -- of equal versions the lowest station, not the first polled; the place of 0005
+    ∷ row (openRead 0 ∷ poll 2 ∷ poll 0 ∷ diagnose ∷ []) 0 0 1 2
     -- a heard read can be closed, and the commit right after it is done; a station that has gone off still counts, and is shown
     ∷ row (round (openRead 0) (diagnose ∷ [])) 0 0 1 1
     ∷ row (round (openRead 0) (diagnose ∷ commit ∷ [])) 0 500 0 0

@@ -1,5 +1,5 @@
--- Parts of the rules that the functions of commit's reply are held to, which diagnose asks too. The enum `Hearing` is theirs alone: where it says
--- `Unheard`, commit's reply is 8.
+-- What the functions behind commit's reply are held to; diagnose asks them too. The enum `Hearing` is theirs alone: where it says `Unheard`, commit's
+-- reply is 8.
 use mathlib.Core.Path.{_≡_}
 use mathlib.Core.Bool.{true, false}
 use mathlib.Core.List.{List}

@@ -74,7 +74,7 @@ pub record Promise : Type 0 where
   pub first-write : (c : List ℕ) (set k : ℕ) → (firstWrite c set ≡ At k) ↔ FirstIn (writeSet c) set k
   pub no-first-read : (c : List ℕ) (set : ℕ) → (firstRead c set ≡ Nowhere) ↔ (QuorumIn (readSet c) set → ⊥)
   pub no-first-write : (c : List ℕ) (set : ℕ) → (firstWrite c set ≡ Nowhere) ↔ (QuorumIn (writeSet c) set → ⊥)
-  -- whether it is a place; the figure tells the answer
+  -- whether an answer is a place, and its figure, which tells the answer
   pub a-place : (place : Place) → (isPlace place ≡ true) ↔ ((k : ℕ) × (place ≡ At k))
   pub no-place : (place : Place) → (isPlace place ≡ false) ↔ (place ≡ Nowhere)
   pub figure-at : (place : Place) (k : ℕ) → (placeFigure place ≡ suc k) ↔ (place ≡ At k)
@@ -82,9 +82,9 @@ pub record Promise : Type 0 where
   -- ---- validity
   pub valid-exactly : (n : ℕ) (c : List ℕ) → (valid n c ≡ true) ↔ Valid n c
   pub valid-stations : (n : ℕ) (c : List ℕ) → valid n c ≡ true → (1 ≤ n) × (n ≤ 16)
+  pub valid-length : (n : ℕ) (c : List ℕ) → valid n c ≡ true → length c ≡ configSize
   -- a side's first place is used
   pub first-used : (n : ℕ) (side : ℕ → ℕ) → Side n side → used (side 0) ≡ true
-  pub valid-length : (n : ℕ) (c : List ℕ) → valid n c ≡ true → length c ≡ configSize
   -- a list of another length has no sets
   pub short-read : (c : List ℕ) (set : ℕ) → (length c ≡ configSize → ⊥) → holdsRead c set ≡ false
   pub short-write : (c : List ℕ) (set : ℕ) → (length c ≡ configSize → ⊥) → holdsWrite c set ≡ false

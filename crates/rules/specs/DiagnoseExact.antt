@@ -1,7 +1,7 @@
 -- Diagnose is exact (document 02, 2026-04): "It is held to commit's own reply". On every table, sound or not, it gets 1 and 5 where commit does; everywhere
--- else it replies 0, and its first figure is commit's own number. That is its definition (`diagnosis` of Figures.antt), to which the code is held, and which
--- here is told by quorums and counters as well (`shows`). It changes no byte (`diagnose-changes-nothing` of Steps.antt), so that a commit right after it gets
--- that number. Over every list of demand 3 the station shown in a heard round has the current reading.
+-- else it replies 0, and its first figure is commit's own number. The figure is so by definition (`diagnosis` of Figures.antt), to which the code is held;
+-- `shows` tells it by quorums and counters as well. It changes no byte (`diagnose-changes-nothing` of Steps.antt), so that a commit right after it gets that
+-- number. Over every list of demand 3 the station shown in a heard round has the current reading.
 use mathlib.Core.Path.{_≡_}
 use mathlib.Core.Logic.{_↔_, _⊎_}
 use mathlib.Core.List.{List, _∷_}
@@ -37,7 +37,7 @@ pub record DiagnoseExact : Type 0 where
   -- where the commit would be done, its figures are made of the copy of the station shown and of the one found by generation
   pub closing : (t : Table) → reply t diagnose .number ≡ 0 → reply t diagnose .first ≡ 0
       → (f : Found (view t)) × (reply t diagnose .second ≡ suc (f .b)) × Closing (view t) f (view t .round .kind) (reply t commit)
-  -- where nothing is polled the commit would get 8; no read place is shown exactly if it would
+  -- where no station is shown the commit would get 8; no read place is shown exactly if it would
   pub nothing-polled : (t : Table) → reply t diagnose .number ≡ 0 → reply t diagnose .second ≡ 0 → reply t diagnose .first ≡ 8
   pub unheard : (t : Table) → reply t diagnose .number ≡ 0 → (reply t diagnose .third ≡ 0) ↔ (reply t diagnose .first ≡ 8)
   -- a commit right after it gets what it said; so where it said 0, the commit is done

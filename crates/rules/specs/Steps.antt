@@ -146,7 +146,7 @@ pub record Committed (v w : State) (r : Reply) : Type 0 where
 pub record Reached (v : State) (i : ℕ) (r : Reply) : Type 0 where
   -- the stations on the bus
   pub isOn : (s : ℕ) → member (onBus v) s ≡ (ltb s (v .n) && not (member (v .off) s))
-  -- polling them finds the configuration of a station g, and nothing where there are none, so that the figure is 0
+  -- polling them finds the configuration of a station g; with nobody on the bus it finds none, and the figure is 0
   pub unheard : (r .first ≡ 0) ↔ ((g : ℕ) → HeardBy v i (onBus v) g → ⊥)
   pub readsOnly : (r .first ≡ 1) ↔ ((g : ℕ) × HeardBy v i (onBus v) g × (QuorumIn (writeSet (v .copies i g .config)) (onBus v) → ⊥))
   pub writes : (r .first ≡ 3) ↔ ((g : ℕ) × HeardBy v i (onBus v) g × QuorumIn (writeSet (v .copies i g .config)) (onBus v))

@@ -1,4 +1,4 @@
--- Whole runs, computed: document 01's frame case; and lines that are refused, with the stations of a new table off until linked and what holds a round up.
+-- Whole runs, computed: document 01's frame case; and a mixed run of refused lines, stations that are off until linked, and diagnose.
 use mathlib.Core.Path.{_≡_}
 use mathlib.Core.List.{List, [], _∷_, _++_}
 use Prim.Native.Nat.{ℕ}

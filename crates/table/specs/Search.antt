@@ -1,5 +1,5 @@
 -- What the search for the newest copies is held to: the code's enum `Station` as the definitions' option, whose figure is `stationFigure` of the
--- layout, and the bounds that the search requires. It is asked of no sound table: what it requires is that the item's copies lie in the bytes.
+-- layout, and the bounds that the search requires. The table need not be sound: what is required is that the item's copies lie in the bytes.
 use mathlib.Core.List.{List}
 use mathlib.Core.Option.{Option, none, some}
 use Prim.Native.Nat.{ℕ, _≤_, _<_}
