@@ -25,10 +25,6 @@
 
 static const implementation LIBRARY = IMPLEMENTATION("library", ospreyscreen_);
 static const implementation OPTIMISED = IMPLEMENTATION("optimised", opt_);
-static const implementation *const WITH[SIDES] = {
-    [LIBRARY_SIDE] = &LIBRARY,
-    [OPTIMISED_SIDE] = &OPTIMISED,
-};
 
 static const double WARM_UP_NS = 3e8;
 
@@ -66,88 +62,89 @@ typedef struct {
 } scene;
 
 /* One run; gives the numbers of its calls, joined by or. */
-typedef uint64_t run_function(const implementation *with, scene *s);
+typedef uint64_t run_function(scene *s);
+typedef uint64_t run_with_function(const implementation *with, scene *s);
 
 /* How much of the table a run sets back. */
 typedef enum { NOTHING, HEAD, HEAD_AND_ITEM } extent;
 
 typedef struct row {
     const char *name;
-    run_function *prepare; /* brings the table to where the run starts */
-    run_function *run;
+    run_with_function *prepare; /* brings the table to where the run starts */
+    run_function *run[SIDES];
     extent set_back;
     uint64_t number; /* what every run gives */
 } row;
 
 /* ---- Runs ---- */
 
-static uint64_t nothing(const implementation *with, scene *s)
+FOR_EACH_SIDE uint64_t nothing(const implementation *with, scene *s)
 {
     (void)with;
     (void)s;
     return 0;
 }
 
-static uint64_t lay(const implementation *with, scene *s)
+FOR_EACH_SIDE uint64_t lay(const implementation *with, scene *s)
 {
     return with->lay(s->table, s->len, s->n, s->m, 500, s->config, sizeof s->config).number;
 }
 
-static uint64_t open_read(const implementation *with, scene *s)
+FOR_EACH_SIDE uint64_t open_read(const implementation *with, scene *s)
 {
     return with->open_read(s->table, s->len, 0).number;
 }
 
-static uint64_t open_write(const implementation *with, scene *s)
+FOR_EACH_SIDE uint64_t open_write(const implementation *with, scene *s)
 {
     return with->open_write(s->table, s->len, 0, 510).number;
 }
 
-static uint64_t open_change(const implementation *with, scene *s)
+FOR_EACH_SIDE uint64_t open_change(const implementation *with, scene *s)
 {
     return with->open_change(s->table, s->len, 0, s->config, sizeof s->config).number;
 }
 
-static uint64_t poll_last(const implementation *with, scene *s)
+FOR_EACH_SIDE uint64_t poll_last(const implementation *with, scene *s)
 {
     return with->poll(s->table, s->len, s->quorum - 1).number;
 }
 
-static uint64_t put_last(const implementation *with, scene *s)
+FOR_EACH_SIDE uint64_t put_last(const implementation *with, scene *s)
 {
     return with->put(s->table, s->len, s->quorum - 1, OSPREYSCREEN_PUT_DATA).number;
 }
 
-static uint64_t commit(const implementation *with, scene *s)
+FOR_EACH_SIDE uint64_t commit(const implementation *with, scene *s)
 {
     return with->commit(s->table, s->len).number;
 }
 
-static uint64_t abandon(const implementation *with, scene *s)
+FOR_EACH_SIDE uint64_t abandon(const implementation *with, scene *s)
 {
     return with->abandon(s->table, s->len).number;
 }
 
-static uint64_t link_last(const implementation *with, scene *s)
+FOR_EACH_SIDE uint64_t link_last(const implementation *with, scene *s)
 {
     return with->link(s->table, s->len, s->n - 1, OSPREYSCREEN_LINK_ON).number;
 }
 
 /* Its number is 0 with nobody on the bus too; so the figure has to be 3. */
-static uint64_t reach(const implementation *with, scene *s)
+FOR_EACH_SIDE uint64_t reach(const implementation *with, scene *s)
 {
     ospreyscreen_reply reply = with->reach(s->table, s->len, 0);
     return reply.number | (reply.first ^ OSPREYSCREEN_REACH_READ_AND_WRITE);
 }
 
 /* Its number is 0 whatever commit would get; so that is joined to it. */
-static uint64_t diagnose(const implementation *with, scene *s)
+FOR_EACH_SIDE uint64_t diagnose(const implementation *with, scene *s)
 {
     ospreyscreen_reply reply = with->diagnose(s->table, s->len);
     return reply.number | reply.first;
 }
 
-static uint64_t links(const implementation *with, scene *s)
+FOR_EACH_SIDE uint64_t links(const implementation *with, scene *s)
 {
     uint64_t numbers = 0;
     for (unsigned station = 0; station < s->n; station++) {
@@ -157,7 +154,7 @@ static uint64_t links(const implementation *with, scene *s)
 }
 
 /* The stations of the first sets stay on the bus, the others go. */
-static uint64_t drops(const implementation *with, scene *s)
+FOR_EACH_SIDE uint64_t drops(const implementation *with, scene *s)
 {
     uint64_t numbers = 0;
     for (unsigned station = s->quorum; station < s->n; station++) {
@@ -166,7 +163,7 @@ static uint64_t drops(const implementation *with, scene *s)
     return numbers;
 }
 
-static uint64_t polls(const implementation *with, scene *s)
+FOR_EACH_SIDE uint64_t polls(const implementation *with, scene *s)
 {
     uint64_t numbers = 0;
     for (unsigned station = 0; station < s->quorum; station++) {
@@ -175,7 +172,7 @@ static uint64_t polls(const implementation *with, scene *s)
     return numbers;
 }
 
-static uint64_t puts_of(const implementation *with, scene *s, uint64_t sort)
+FOR_EACH_SIDE uint64_t puts_of(const implementation *with, scene *s, uint64_t sort)
 {
     uint64_t numbers = 0;
     for (unsigned station = 0; station < s->quorum; station++) {
@@ -184,38 +181,38 @@ static uint64_t puts_of(const implementation *with, scene *s, uint64_t sort)
     return numbers;
 }
 
-static uint64_t read_to_commit(const implementation *with, scene *s)
+FOR_EACH_SIDE uint64_t read_to_commit(const implementation *with, scene *s)
 {
     return open_read(with, s) | polls(with, s);
 }
 
-static uint64_t write_to_puts(const implementation *with, scene *s)
+FOR_EACH_SIDE uint64_t write_to_puts(const implementation *with, scene *s)
 {
     return open_write(with, s) | polls(with, s);
 }
 
-static uint64_t write_to_commit(const implementation *with, scene *s)
+FOR_EACH_SIDE uint64_t write_to_commit(const implementation *with, scene *s)
 {
     return write_to_puts(with, s) | puts_of(with, s, OSPREYSCREEN_PUT_DATA);
 }
 
-static uint64_t change_to_commit(const implementation *with, scene *s)
+FOR_EACH_SIDE uint64_t change_to_commit(const implementation *with, scene *s)
 {
     return open_change(with, s) | polls(with, s) | puts_of(with, s, OSPREYSCREEN_PUT_DATA) |
            puts_of(with, s, OSPREYSCREEN_PUT_CONFIGURATION);
 }
 
-static uint64_t read_round(const implementation *with, scene *s)
+FOR_EACH_SIDE uint64_t read_round(const implementation *with, scene *s)
 {
     return read_to_commit(with, s) | commit(with, s);
 }
 
-static uint64_t write_round(const implementation *with, scene *s)
+FOR_EACH_SIDE uint64_t write_round(const implementation *with, scene *s)
 {
     return write_to_commit(with, s) | commit(with, s);
 }
 
-static uint64_t change_round(const implementation *with, scene *s)
+FOR_EACH_SIDE uint64_t change_round(const implementation *with, scene *s)
 {
     return change_to_commit(with, s) | commit(with, s);
 }
@@ -230,83 +227,117 @@ static void set_apart(const scene *s, uint8_t *config)
     config[1] = (uint8_t)(apart >> 8);
 }
 
-static uint64_t spoil_head(const implementation *with, scene *s)
+FOR_EACH_SIDE uint64_t spoil_head(const implementation *with, scene *s)
 {
     uint64_t numbers = read_to_commit(with, s);
     s->table[12] = 1;
     return numbers;
 }
 
-static uint64_t spoil_last_copy(const implementation *with, scene *s)
+FOR_EACH_SIDE uint64_t spoil_last_copy(const implementation *with, scene *s)
 {
     uint64_t numbers = read_to_commit(with, s);
     set_apart(s, s->table + s->len - OSPREYSCREEN_CONFIGURATION_LENGTH);
     return numbers;
 }
 
-static uint64_t spoil_config(const implementation *with, scene *s)
+FOR_EACH_SIDE uint64_t spoil_config(const implementation *with, scene *s)
 {
     (void)with;
     set_apart(s, s->config);
     return 0;
 }
 
-static uint64_t spend_version(const implementation *with, scene *s)
+FOR_EACH_SIDE uint64_t spend_version(const implementation *with, scene *s)
 {
     uint64_t numbers = write_to_puts(with, s);
     memset(s->table + OSPREYSCREEN_HEAD_LENGTH, 0xFF, 8);
     return numbers;
 }
 
-static uint64_t read_while_off(const implementation *with, scene *s)
+FOR_EACH_SIDE uint64_t read_while_off(const implementation *with, scene *s)
 {
     return open_read(with, s) | with->link(s->table, s->len, s->quorum - 1, OSPREYSCREEN_LINK_OFF).number;
 }
 
-static uint64_t poll_longer(const implementation *with, scene *s)
+FOR_EACH_SIDE uint64_t poll_longer(const implementation *with, scene *s)
 {
     return with->poll(s->table, s->len + OSPREYSCREEN_COPY_LENGTH, s->quorum - 1).number;
 }
 
-static uint64_t poll_beyond(const implementation *with, scene *s)
+FOR_EACH_SIDE uint64_t poll_beyond(const implementation *with, scene *s)
 {
     return with->poll(s->table, s->len, s->n).number;
 }
 
+/* ---- The runs of each side ---- */
+
+#define EACH_SIDE(run)                                                                             \
+    static uint64_t library_##run(scene *s)                                                        \
+    {                                                                                              \
+        return run(&LIBRARY, s);                                                                   \
+    }                                                                                              \
+    static uint64_t optimised_##run(scene *s)                                                      \
+    {                                                                                              \
+        return run(&OPTIMISED, s);                                                                 \
+    }
+
+EACH_SIDE(lay)
+EACH_SIDE(open_read)
+EACH_SIDE(open_write)
+EACH_SIDE(open_change)
+EACH_SIDE(poll_last)
+EACH_SIDE(put_last)
+EACH_SIDE(commit)
+EACH_SIDE(abandon)
+EACH_SIDE(link_last)
+EACH_SIDE(reach)
+EACH_SIDE(diagnose)
+EACH_SIDE(read_round)
+EACH_SIDE(write_round)
+EACH_SIDE(change_round)
+EACH_SIDE(poll_longer)
+EACH_SIDE(poll_beyond)
+
+#define BY_SIDE(run)                                                                               \
+    {                                                                                              \
+        [LIBRARY_SIDE] = library_##run, [OPTIMISED_SIDE] = optimised_##run                         \
+    }
+
 static const row ROWS[] = {
-    {"lay", nothing, lay, NOTHING, OSPREYSCREEN_DONE},
-    {"open read", nothing, open_read, HEAD, OSPREYSCREEN_DONE},
-    {"open write", nothing, open_write, HEAD, OSPREYSCREEN_DONE},
-    {"open change", nothing, open_change, HEAD, OSPREYSCREEN_DONE},
-    {"poll", read_to_commit, poll_last, NOTHING, OSPREYSCREEN_DONE},
-    {"put", write_to_puts, put_last, NOTHING, OSPREYSCREEN_DONE},
-    {"commit of a read", read_to_commit, commit, HEAD, OSPREYSCREEN_DONE},
-    {"commit of a write", write_to_commit, commit, HEAD, OSPREYSCREEN_DONE},
-    {"commit of a change", change_to_commit, commit, HEAD_AND_ITEM, OSPREYSCREEN_DONE},
-    {"abandon", read_to_commit, abandon, HEAD, OSPREYSCREEN_DONE},
-    {"link", nothing, link_last, NOTHING, OSPREYSCREEN_DONE},
-    {"reach", nothing, reach, NOTHING, OSPREYSCREEN_DONE},
-    {"reach, stations off", drops, reach, NOTHING, OSPREYSCREEN_DONE},
-    {"diagnose", write_to_commit, diagnose, NOTHING, OSPREYSCREEN_DONE},
-    {"diagnose, short", write_to_puts, diagnose, NOTHING, OSPREYSCREEN_SHORT},
-    {"diagnose, unheard", open_write, diagnose, NOTHING, OSPREYSCREEN_UNHEARD},
-    {"read round", nothing, read_round, NOTHING, OSPREYSCREEN_DONE},
-    {"write round", nothing, write_round, NOTHING, OSPREYSCREEN_DONE},
-    {"change round", nothing, change_round, HEAD_AND_ITEM, OSPREYSCREEN_DONE},
-    {"unsound: length", read_to_commit, poll_longer, NOTHING, OSPREYSCREEN_UNSOUND},
-    {"unsound: byte 12", spoil_head, poll_last, NOTHING, OSPREYSCREEN_UNSOUND},
-    {"unsound: last copy", spoil_last_copy, poll_last, NOTHING, OSPREYSCREEN_UNSOUND},
-    {"no such station", read_to_commit, poll_beyond, NOTHING, OSPREYSCREEN_NO_SUCH_THING},
-    {"lay: false configuration", spoil_config, lay, NOTHING, OSPREYSCREEN_FALSE_CONFIGURATION},
-    {"false target", spoil_config, open_change, NOTHING, OSPREYSCREEN_FALSE_CONFIGURATION},
-    {"busy", read_to_commit, open_read, NOTHING, OSPREYSCREEN_BUSY},
-    {"idle", nothing, commit, NOTHING, OSPREYSCREEN_IDLE},
-    {"off the bus", read_while_off, poll_last, NOTHING, OSPREYSCREEN_OFF_THE_BUS},
-    {"reading over", write_to_commit, poll_last, NOTHING, OSPREYSCREEN_READING_OVER},
-    {"unheard", open_write, put_last, NOTHING, OSPREYSCREEN_UNHEARD},
-    {"wrong put", read_to_commit, put_last, NOTHING, OSPREYSCREEN_WRONG_PUT},
-    {"spent", spend_version, put_last, NOTHING, OSPREYSCREEN_SPENT},
-    {"short", write_to_puts, commit, NOTHING, OSPREYSCREEN_SHORT},
+    {"lay", nothing, BY_SIDE(lay), NOTHING, OSPREYSCREEN_DONE},
+    {"open read", nothing, BY_SIDE(open_read), HEAD, OSPREYSCREEN_DONE},
+    {"open write", nothing, BY_SIDE(open_write), HEAD, OSPREYSCREEN_DONE},
+    {"open change", nothing, BY_SIDE(open_change), HEAD, OSPREYSCREEN_DONE},
+    {"poll", read_to_commit, BY_SIDE(poll_last), NOTHING, OSPREYSCREEN_DONE},
+    {"put", write_to_puts, BY_SIDE(put_last), NOTHING, OSPREYSCREEN_DONE},
+    {"commit of a read", read_to_commit, BY_SIDE(commit), HEAD, OSPREYSCREEN_DONE},
+    {"commit of a write", write_to_commit, BY_SIDE(commit), HEAD, OSPREYSCREEN_DONE},
+    {"commit of a change", change_to_commit, BY_SIDE(commit), HEAD_AND_ITEM, OSPREYSCREEN_DONE},
+    {"abandon", read_to_commit, BY_SIDE(abandon), HEAD, OSPREYSCREEN_DONE},
+    {"link", nothing, BY_SIDE(link_last), NOTHING, OSPREYSCREEN_DONE},
+    {"reach", nothing, BY_SIDE(reach), NOTHING, OSPREYSCREEN_DONE},
+    {"reach, stations off", drops, BY_SIDE(reach), NOTHING, OSPREYSCREEN_DONE},
+    {"diagnose", write_to_commit, BY_SIDE(diagnose), NOTHING, OSPREYSCREEN_DONE},
+    {"diagnose, short", write_to_puts, BY_SIDE(diagnose), NOTHING, OSPREYSCREEN_SHORT},
+    {"diagnose, unheard", open_write, BY_SIDE(diagnose), NOTHING, OSPREYSCREEN_UNHEARD},
+    {"read round", nothing, BY_SIDE(read_round), NOTHING, OSPREYSCREEN_DONE},
+    {"write round", nothing, BY_SIDE(write_round), NOTHING, OSPREYSCREEN_DONE},
+    {"change round", nothing, BY_SIDE(change_round), HEAD_AND_ITEM, OSPREYSCREEN_DONE},
+    {"unsound: length", read_to_commit, BY_SIDE(poll_longer), NOTHING, OSPREYSCREEN_UNSOUND},
+    {"unsound: byte 12", spoil_head, BY_SIDE(poll_last), NOTHING, OSPREYSCREEN_UNSOUND},
+    {"unsound: last copy", spoil_last_copy, BY_SIDE(poll_last), NOTHING, OSPREYSCREEN_UNSOUND},
+    {"no such station", read_to_commit, BY_SIDE(poll_beyond), NOTHING, OSPREYSCREEN_NO_SUCH_THING},
+    {"lay: false configuration", spoil_config, BY_SIDE(lay), NOTHING, OSPREYSCREEN_FALSE_CONFIGURATION},
+    {"false target", spoil_config, BY_SIDE(open_change), NOTHING, OSPREYSCREEN_FALSE_CONFIGURATION},
+    {"busy", read_to_commit, BY_SIDE(open_read), NOTHING, OSPREYSCREEN_BUSY},
+    {"idle", nothing, BY_SIDE(commit), NOTHING, OSPREYSCREEN_IDLE},
+    {"off the bus", read_while_off, BY_SIDE(poll_last), NOTHING, OSPREYSCREEN_OFF_THE_BUS},
+    {"reading over", write_to_commit, BY_SIDE(poll_last), NOTHING, OSPREYSCREEN_READING_OVER},
+    {"unheard", open_write, BY_SIDE(put_last), NOTHING, OSPREYSCREEN_UNHEARD},
+    {"wrong put", read_to_commit, BY_SIDE(put_last), NOTHING, OSPREYSCREEN_WRONG_PUT},
+    {"spent", spend_version, BY_SIDE(put_last), NOTHING, OSPREYSCREEN_SPENT},
+    {"short", write_to_puts, BY_SIDE(commit), NOTHING, OSPREYSCREEN_SHORT},
 };
 enum { ROW_COUNT = sizeof ROWS / sizeof ROWS[0] };
 
@@ -379,23 +410,29 @@ static void set_row(scene *s, const row *w)
 
 /* ---- Times ---- */
 
-static double batch(unsigned side, void *at, unsigned runs)
+FOR_EACH_SIDE double batch_of(unsigned side, scene *s, unsigned runs)
 {
-    scene *s = at;
     const row *w = s->row;
+    run_function *run = w->run[side];
     uint64_t wrong = 0;
 
     memcpy(s->table, s->saved, s->len);
     double start = now_ns();
     for (unsigned i = 0; i < runs; i++) {
         memcpy(s->table, s->saved, s->set_back);
-        wrong |= w->run(WITH[side], s) ^ w->number;
+        wrong |= run(s) ^ w->number;
     }
     double time = now_ns() - start;
     if (wrong != 0) {
         give_up("gives another number", w->name);
     }
     return time / runs;
+}
+
+static double batch(unsigned side, void *at, unsigned runs)
+{
+    return side == LIBRARY_SIDE ? batch_of(LIBRARY_SIDE, at, runs)
+                                : batch_of(OPTIMISED_SIDE, at, runs);
 }
 
 /* Runs a while without a result, until the processor is at its pace. */

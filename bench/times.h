@@ -10,6 +10,11 @@ enum { SAMPLES_MOST = 10001 };
 /* The two that are timed. */
 enum { LIBRARY_SIDE, OPTIMISED_SIDE, SIDES };
 
+/* What both sides run is inlined, so that each has calls of its own. From a
+ * call through a pointer that both share, the processor foretells the target
+ * that it met first sooner than the other: some 0.8 ns a call. */
+#define FOR_EACH_SIDE static inline __attribute__((always_inline))
+
 typedef struct {
     double minimum;
     double median;

@@ -66,10 +66,10 @@ static void set_scene(scene *s, const votes_row *row)
     }
 }
 
-static double batch(unsigned side, void *at, unsigned runs)
+FOR_EACH_SIDE double batch_of(unsigned side, scene *s, unsigned runs)
 {
-    scene *s = at;
     const votes_row *row = s->row;
+    votes_function *votes_of = s->sides[side];
     uint8_t out[OSPREYSCREEN_CONFIGURATION_LENGTH];
     uint64_t wrong = 0;
 
@@ -77,7 +77,7 @@ static double batch(unsigned side, void *at, unsigned runs)
     for (unsigned i = 0; i < runs; i++) {
         const uint8_t *votes = s->orders[(s->next[side] + i) % ORDERS];
         wrong |= row->number ^
-                 s->sides[side](votes, STATIONS, row->read, row->write, out, sizeof out).number;
+                 votes_of(votes, STATIONS, row->read, row->write, out, sizeof out).number;
     }
     double time = now_ns() - start;
     s->next[side] += runs;
@@ -85,6 +85,12 @@ static double batch(unsigned side, void *at, unsigned runs)
         give_up("gives another number", row->name);
     }
     return time / runs;
+}
+
+static double batch(unsigned side, void *at, unsigned runs)
+{
+    return side == LIBRARY_SIDE ? batch_of(LIBRARY_SIDE, at, runs)
+                                : batch_of(OPTIMISED_SIDE, at, runs);
 }
 
 void print_votes_rows(unsigned samples, summary *sum)
