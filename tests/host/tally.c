@@ -430,6 +430,7 @@ static void print_commits(FILE *to, const tally *t)
 /* Replies by a figure that is one plus a station or a place, or 0. */
 typedef struct {
     const char *name;
+    unsigned forms; /* that should meet every figure */
     const uint64_t *replies;
     int count;
 } by_figure;
@@ -438,9 +439,9 @@ enum { BY_FIGURE = 3 };
 
 static void by_figures(const tally *t, by_figure rows[BY_FIGURE])
 {
-    rows[0] = (by_figure){"polls by read place", t->polls, PLACE_COUNTS};
-    rows[1] = (by_figure){"diagnoses by read place", t->places, PLACE_COUNTS};
-    rows[2] = (by_figure){"diagnoses by station", t->stations, STATION_COUNTS};
+    rows[0] = (by_figure){"polls by read place", ALL, t->polls, PLACE_COUNTS};
+    rows[1] = (by_figure){"diagnoses by read place", ALL, t->places, PLACE_COUNTS};
+    rows[2] = (by_figure){"diagnoses by station", LISTS, t->stations, STATION_COUNTS};
 }
 
 static void print_figures(FILE *to, const tally *t)
@@ -514,14 +515,14 @@ static bool met_commits(FILE *to, const tally *t)
     return all;
 }
 
-static bool met_figures(FILE *to, const tally *t)
+static bool met_figures(FILE *to, const tally *t, form f)
 {
     bool all = true;
     by_figure rows[BY_FIGURE];
 
     by_figures(t, rows);
     for (int i = 0; i < BY_FIGURE; i++) {
-        for (int figure = 0; figure < rows[i].count; figure++) {
+        for (int figure = 0; figure < rows[i].count && (rows[i].forms >> f & 1) != 0; figure++) {
             char which[32];
             snprintf(which, sizeof which, ": figure %d", figure);
             all &= met(to, rows[i].replies[figure], rows[i].name, which);
@@ -534,7 +535,7 @@ bool tally_met_all(FILE *to, const tally *t, form f)
 {
     bool all = met_numbers(to, t, f);
     all &= met_commits(to, t);
-    all &= met_figures(to, t);
+    all &= met_figures(to, t, f);
     for (int m = 0; m < MET_COUNT; m++) {
         all &= !form_meets(f, m) || met(to, t->met[m], "", METERS[m].name);
     }
