@@ -2,7 +2,7 @@
 use mathlib.Core.Path.{_≡_, refl, ap, _∙_}
 use mathlib.Core.Bool.{true, cond}
 use mathlib.Core.List.{List}
-use Prim.Native.Nat.{ℕ, _≤_, _<_}
+use Prim.Native.Nat.{ℕ, _<_}
 use Rattle.quorum.specs.Sets.{full, minus}
 use Rattle.quorum.specs.Configurations.{placeFigure, holdsRead, holdsWrite}
 use Rattle.quorum.specs.declared.Place.{Place}
@@ -16,7 +16,6 @@ use Rattle.table.specs.Search.{asOption, InTable, copiesOf, generationsOf}
 use Rattle.table.specs.declared.newest.Station.{Station}
 use Rattle.table.specs.declared.newest.Station.the-variants.{At, Nobody}
 use Rattle.rounds.proofs.Hearing.{items-in-table, nobody-unheard}
-use Rattle.rules.proofs.Quorums.{place-fits}
 use Rattle.rules.specs.Calls.{poll}
 use Rattle.rules.specs.Figures.{oneFigure, reachFigure, figuresOf}
 use Rattle.rules.specs.Reply.{answer}
@@ -34,10 +33,6 @@ pub poll-figure : (t : List ℕ) (s : ℕ) {n i polled figure : ℕ} {place : Pl
 unfolding figuresOf view
 poll-figure t s e f g h q =
     let own = rw (e, f, g) at h in ap figureReply (q ∙ ap placeFigure own)
-
--- a place of the test for heard has a figure of at most 8
-pub place-small : (t : List ℕ) (n i polled : ℕ) {place : Place} → place ≡ heardPlace (copiesOf t n i) polled n → placeFigure place ≤ 8
-place-small t n i polled e = rw e (place-fits (byGeneration (copiesOf t n i) polled n .config) polled)
 
 -- ---- reach: what polling the stations on the bus finds
 -- the copies lie in the table, by the stations that were read

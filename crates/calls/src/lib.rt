@@ -9,11 +9,10 @@ ghost use Rattle.rules.specs.Calls.{poll, put, commit, link, reach, diagnose};
 ghost use Rattle.rules.specs.Figures.{reachFigure};
 ghost use Rattle.rules.specs.Reply.{reply, after};
 use closing::look_ahead;
-use layout::NO_ROUND;
 use numbers::DATA;
 use numbers::DONE;
-use numbers::IDLE;
 use numbers::OFF;
+use numbers::idle_number;
 use numbers::link_number;
 use numbers::plain;
 use numbers::poll_number;
@@ -26,7 +25,6 @@ use table::copy::Generation;
 use table::copy::Version;
 use table::copy::address;
 use table::copy::config_at;
-use table::head::kind;
 use table::head::off_set;
 use table::head::set_off;
 use table::head::set_polled;
@@ -75,8 +73,9 @@ pub fn commit_on(t: &mut [u8]) -> Reply
     ensures { λ r. ⌜ r ≡ reply (now (t .entry)) commit ⌝ }
     ensures { λ _. ⌜ now (t .exit) ≡ after (now (t .entry)) commit ⌝ }
 {
-    if kind(t) == NO_ROUND {
-        return plain(IDLE);
+    let number = idle_number(t);
+    if number != DONE {
+        return plain(number);
     }
     let outcome = look_ahead(t).outcome;
     if outcome.number != DONE {
@@ -160,8 +159,9 @@ pub fn diagnose_on(t: &[u8]) -> Reply
     requires { ⌜ sound (now t) ≡ true ⌝ }
     ensures { λ r. ⌜ r ≡ reply (now (t .entry)) diagnose ⌝ }
 {
-    if kind(t) == NO_ROUND {
-        return plain(IDLE);
+    let number = idle_number(t);
+    if number != DONE {
+        return plain(number);
     }
     let seen = look_ahead(t);
     let outcome = seen.outcome;

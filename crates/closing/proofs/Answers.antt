@@ -5,11 +5,12 @@ use mathlib.Core.List.{List}
 use Prim.Native.Nat.{ℕ, _-_, _^_, _<_}
 use native.Mathlib.Omega.{arith}
 use borrow.Author.Tests.{eqb-false}
+use Rattle.basics.proofs.Tests.{either}
 use Rattle.quorum.specs.Configurations.{holdsWrite}
 use Rattle.layout.specs.Fields.{Kind, copyFrom}
 use Rattle.layout.specs.Soundness.{sound}
 use Rattle.layout.specs.View.{view, foundByVersion, foundByGeneration, heard}
-use Rattle.rules.specs.Calls.{commit}
+use Rattle.rules.specs.Calls.{commit, abandon}
 use Rattle.rules.specs.Rules.{first, tests, last, isIdle, spent, written, commitTests}
 use Rattle.rules.specs.Figures.{Figures, figuresOf, closing}
 use Rattle.rules.specs.Reply.{answer, replyOf, reply}
@@ -30,9 +31,10 @@ module _ (t : List ℕ) (e : sound t ≡ true) where
   unfolding replyOf view
   by-tests = rw (sound-number (view t) commit refl e)
 
-  pub idle-reply : isIdle (view t) ≡ true → refusal 5 ≡ reply t commit
+  -- by abandon's number, which is commit's too where it is not 0
+  pub idle-reply : {k : ℕ} → k ≡ first (tests (view t) abandon) → (k ≡ 0 → ⊥) → refusal k ≡ reply t commit
   unfolding tests first
-  idle-reply i = sym (by-tests ∙ rw i)
+  idle-reply e h = either (isIdle (view t)) (λ i. sym (by-tests ∙ rw (e, i))) (λ i. absurd (h (e ∙ rw i)))
 
   pub unheard-reply : isIdle (view t) ≡ false → heard (view t) ≡ false → refusal 8 ≡ reply t commit
   unfolding tests first

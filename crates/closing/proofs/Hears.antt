@@ -8,13 +8,12 @@ use Rattle.quorum.specs.Configurations.{placeFigure, isPlace}
 use Rattle.layout.specs.Layout.{address}
 use Rattle.layout.specs.Fields.{stations, roundOf}
 use Rattle.layout.specs.Newest.{newest, stationFigure, byVersion, byGeneration, hears}
-use Rattle.layout.specs.View.{view, foundByGeneration, heard}
+use Rattle.layout.specs.View.{view, heard}
 use Rattle.layout.specs.Soundness.{sound}
-use Rattle.layout.proofs.Newer.{station-fits}
+use Rattle.layout.proofs.Newer.{station-fits, place-fits}
 use Rattle.layout.proofs.Soundness.{is-sound}
 use Rattle.rules.specs.Figures.{diagnosis}
-use Rattle.rules.proofs.Quorums.{place-fits}
-use Rattle.table.specs.Search.{asOption, versionsOf, generationsOf}
+use Rattle.table.specs.Search.{asOption, copiesOf, versionsOf, generationsOf}
 use Rattle.table.specs.declared.newest.Station.{Station}
 use Rattle.table.specs.declared.newest.Station.the-variants.{At, Nobody}
 use Rattle.table.proofs.Search.{copy-fits}
@@ -66,13 +65,13 @@ module _ (t : List ℕ) where
         }
 
     -- ---- the figures of the station that gave the version and of the read place
-    pub station-shown : {y : ℕ} → y ≡ stationFigure (asOption (found .«by_version»)) → y ≡ diagnosis (view t) .second
+    pub shows-station : {y : ℕ} → y ≡ stationFigure (asOption (found .«by_version»)) → y ≡ diagnosis (view t) .second
     unfolding view
-    station-shown q = q ∙ ap stationFigure (own .version)
+    shows-station q = q ∙ ap stationFigure (own .version)
 
-    pub place-shown : {z : ℕ} → z ≡ placeFigure (found .place) → z ≡ diagnosis (view t) .third
+    pub shows-place : {z : ℕ} → z ≡ placeFigure (found .place) → z ≡ diagnosis (view t) .third
     unfolding view
-    place-shown q = q ∙ ap placeFigure (own .place)
+    shows-place q = q ∙ ap placeFigure (own .place)
 
     pub station-small : sound t ≡ true → stationFigure (asOption (found .«by_version»)) ≤ 16
     unfolding view
@@ -81,4 +80,4 @@ module _ (t : List ℕ) where
 
     pub place-small : placeFigure (found .place) ≤ 8
     unfolding view
-    place-small = rw (own .place) (place-fits (foundByGeneration (view t) .config) polled)
+    place-small = rw (own .place) (place-fits (copiesOf t n item) polled n)

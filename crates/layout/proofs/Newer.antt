@@ -2,7 +2,7 @@
 -- the set, and of several the lowest.
 use mathlib.Core.Path.{_≡_, refl, ap}
 use mathlib.Core.Bool.{Bool, true, false, cond}
-use mathlib.Core.List.{[]}
+use mathlib.Core.List.{List, []}
 use mathlib.Core.Logic.{_↔_}
 use mathlib.Core.Option.{Option, none, some}
 use Prim.Native.Nat.{ℕ, zero, suc, _≤_, _<_}
@@ -11,7 +11,8 @@ use native.Mathlib.Omega.{arith}
 use lib.Dec.{ltb}
 use borrow.Author.Tests.{ltb-true, ltb-false}
 use Rattle.quorum.specs.Sets.{member, within}
-use Rattle.quorum.specs.Configurations.{firstRead, isPlace, holdsRead}
+use Rattle.quorum.specs.Configurations.{firstRead, placeFigure, isPlace, holdsRead}
+use Rattle.quorum.specs.declared.Place.{Place}
 use Rattle.basics.proofs.Tests.{clash, below-suc, either}
 use Rattle.quorum.proofs.Promise.{promise}
 use Rattle.layout.specs.Fields.{Copy}
@@ -132,6 +133,20 @@ module _ (key : ℕ → ℕ) (set n : ℕ) where
 
 -- ---- the copies that it gives
 module _ (copies : ℕ → Copy) (set n : ℕ) where
+  -- the figure of the place held: there are eight places
+  pub place-fits : placeFigure (heardPlace copies set n) ≤ 8
+  place-fits = go (placeFigure place) refl
+    where
+      config : List ℕ
+      config = byGeneration copies set n .config
+
+      place : Place
+      place = firstRead config set
+
+      go : (x : ℕ) → placeFigure place ≡ x → x ≤ 8
+      go zero e = omega arith
+      go (suc k) e = let f = promise .first-read config set k .0 (promise .figure-at place k .0 e) .0 in omega arith
+
   pub by-version : (b : ℕ) → IsNewest (λ s. copies s .version) set n b → byVersion copies set n ≡ copies b
   unfolding byVersion
   by-version b h = ap (copyOr copies) (newest-is (λ s. copies s .version) set n b h)

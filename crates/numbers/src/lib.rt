@@ -215,7 +215,8 @@ fn generation_spent(t: &[u8]) -> bool
     generation_at(t, address(n, i, g)).is_last()
 }
 
-pub fn abandon_number(t: &[u8]) -> u64
+// Of abandon and of diagnose, and commit's first test: whether a round is open.
+pub fn idle_number(t: &[u8]) -> u64
     requires { ⌜ sound (now t) ≡ true ⌝ }
     ensures { λ r. ⌜ r ≡ first (tests (view (now (t .entry))) abandon) ⌝ }
 {

@@ -8,7 +8,7 @@ use borrow.Author.Tests.{ne-eqb}
 use Rattle.layout.specs.Soundness.{sound}
 use Rattle.layout.specs.View.{State, view}
 use Rattle.layout.proofs.Soundness.{is-sound}
-use Rattle.rules.specs.Calls.{Call, openRead, openWrite, isLay}
+use Rattle.rules.specs.Calls.{Call, openRead, openWrite, abandon, diagnose, isLay}
 use Rattle.rules.specs.Rules.{first, tests, numberOf}
 use Rattle.rules.specs.Figures.{noFigures, figuresOf}
 use Rattle.rules.specs.After.{done}
@@ -62,7 +62,11 @@ pub item-byte : (t : List ℕ) → sound t ≡ true → {i : ℕ} → i < view t
 unfolding view
 item-byte t e l = let s = is-sound t e .fewItems in omega arith
 
--- open write has open read's tests
+-- open write has open read's tests, and diagnose abandon's
 pub write-opens : (v : State) (i x : ℕ) → first (tests v (openRead i)) ≡ first (tests v (openWrite i x))
 unfolding tests
 write-opens v i x = refl
+
+pub diagnose-asks : (v : State) → first (tests v abandon) ≡ first (tests v diagnose)
+unfolding tests
+diagnose-asks v = refl

@@ -9,7 +9,7 @@ use layout::NO_ROUND;
 use layout::READ;
 use layout::WRITE;
 use numbers::DONE;
-use numbers::abandon_number;
+use numbers::idle_number;
 use numbers::open_change_number;
 use numbers::open_number;
 use numbers::plain;
@@ -62,7 +62,7 @@ pub fn abandon_on(t: &mut [u8]) -> Reply
     ensures { λ r. ⌜ r ≡ reply (now (t .entry)) abandon ⌝ }
     ensures { λ _. ⌜ now (t .exit) ≡ after (now (t .entry)) abandon ⌝ }
 {
-    let number = abandon_number(t);
+    let number = idle_number(t);
     if number != DONE {
         return plain(number);
     }

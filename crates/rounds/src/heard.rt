@@ -1,7 +1,7 @@
 // What a round that has polled some stations has found, and whether it is heard.
 ghost use mathlib.Core.Path.{_≡_};
-ghost use Rattle.layout.specs.Newest.{newest, heardPlace, hears};
-ghost use Rattle.table.specs.Search.{asOption, InTable, copiesOf, generationsOf};
+ghost use Rattle.layout.specs.Newest.{generationStation, heardPlace, hears};
+ghost use Rattle.table.specs.Search.{asOption, InTable, copiesOf};
 ghost use Rattle.rounds.specs.Heard.{IsFound};
 use quorum::Place;
 use table::copy::address;
@@ -18,7 +18,7 @@ pub struct Found {
 
 // The first read place of the configuration found that the polled set holds: the test for heard.
 fn read_place(t: &[u8], n: usize, item: usize, polled: u16, by_generation: Station) -> Place
-    requires { ⌜ InTable (now t) n item × (asOption «by_generation» ≡ newest (generationsOf (now t) n item) polled n) ⌝ }
+    requires { ⌜ InTable (now t) n item × (asOption «by_generation» ≡ generationStation (copiesOf (now t) n item) polled n) ⌝ }
     ensures { λ r. ⌜ r ≡ heardPlace (copiesOf (now (t .entry)) n item) polled n ⌝ }
 {
     let Station::At(g) = by_generation else {

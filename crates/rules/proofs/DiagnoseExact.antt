@@ -1,8 +1,8 @@
 -- Diagnose is exact: its tests are commit's first two, and its figures those of the definition.
 use mathlib.Core.Path.{_≡_, refl, sym, ap, _∙_}
 use mathlib.Core.Bool.{true}
-use mathlib.Core.Logic.{_↔_, _⊎_, inl, inr}
-use Prim.Native.Nat.{ℕ, zero, suc}
+use mathlib.Core.Logic.{_↔_, _⊎_, inl, inr, ⊎-elim}
+use Prim.Native.Nat.{ℕ, zero, suc, _≤_}
 use native.Mathlib.Omega.{arith}
 use Rattle.basics.specs.Bytes.{AreBytes}
 use Rattle.basics.proofs.Tests.{clash, either}
@@ -50,9 +50,9 @@ module _ (t : Table) where
   abbrev committing : ℕ
   committing = reply t commit .number
 
-  -- both get 1, both get 5, or diagnose is done and commit gets neither
+  -- both are refused alike, with 1 or 5, or diagnose is done and commit gets neither
   abbrev Numbers : Type 0
-  Numbers = ((number ≡ 1) × (committing ≡ 1)) ⊎ (((number ≡ 5) × (committing ≡ 5)) ⊎ ((number ≡ 0) × ((committing ≡ 1) ⊎ (committing ≡ 5) → ⊥)))
+  Numbers = ((number ≡ committing) × ((number ≡ 1) ⊎ (number ≡ 5))) ⊎ ((number ≡ 0) × ((committing ≡ 0) ⊎ (8 ≤ committing)))
 
   numbers : Numbers
   unfolding needs view
@@ -60,44 +60,28 @@ module _ (t : Table) where
       either (view t .isSound)
       (λ s. either (isIdle (view t))
       (λ i. let e = idle-none (view t .round .kind) .0 i in
-      inr (inl (numbered .number-exactly t diagnose 5 .1 (inr (s, inl (λ o. o e, refl))), demand2 .no-round t s e)))
+      let five = numbered .number-exactly t diagnose 5 .1 (inr (s, inl (λ o. o e, refl))) in inl (five ∙ sym (demand2 .no-round t s e), inr five))
       (λ i. let o = a-round (view t .round .kind) .0 i in
-      inr (inr (numbered .done-exactly t diagnose .1 (s, (o, tt)), neither (demand2 .open-round t s o .noOther)))))
-      (λ s. inl (numbered .number-exactly t diagnose 1 .1 (inl (λ e. clash e s, refl)), demand2 .unsound t s))
+      inr (numbered .done-exactly t diagnose .1 (s, (o, tt)), late (demand2 .open-round t s o .noOther))))
+      (λ s. let one = numbered .number-exactly t diagnose 1 .1 (inl (λ e. clash e s, refl)) in inl (one ∙ sym (demand2 .unsound t s), inl one))
     where
-      neither : (committing ≡ 0) ⊎ ((committing ≡ 8) ⊎ ((committing ≡ 10) ⊎ (committing ≡ 11))) → (committing ≡ 1) ⊎ (committing ≡ 5) → ⊥
-      neither (inl c) (inl e) = omega arith
-      neither (inl c) (inr e) = omega arith
-      neither (inr (inl c)) (inl e) = omega arith
-      neither (inr (inl c)) (inr e) = omega arith
-      neither (inr (inr (inl c))) (inl e) = omega arith
-      neither (inr (inr (inl c))) (inr e) = omega arith
-      neither (inr (inr (inr c))) (inl e) = omega arith
-      neither (inr (inr (inr c))) (inr e) = omega arith
+      late : (committing ≡ 0) ⊎ ((committing ≡ 8) ⊎ ((committing ≡ 10) ⊎ (committing ≡ 11))) → (committing ≡ 0) ⊎ (8 ≤ committing)
+      late (inl c) = inl c
+      late (inr (inl c)) = inr (omega arith)
+      late (inr (inr (inl c))) = inr (omega arith)
+      late (inr (inr (inr c))) = inr (omega arith)
 
-  unsound : (number ≡ 1) ↔ (committing ≡ 1)
-  unsound = go numbers
+  -- 1 and 5 are among the numbers that both get or neither
+  same-number : (k : ℕ) → 1 ≤ k → k ≤ 7 → (number ≡ k) ↔ (committing ≡ k)
+  same-number k low high = go numbers
     where
-      go : Numbers → (number ≡ 1) ↔ (committing ≡ 1)
-      go (inl h) = (λ _. h .1, λ _. h .0)
-      go (inr (inl h)) = let p = h .0 in let q = h .1 in (λ e. absurd (omega arith), λ e. absurd (omega arith))
-      go (inr (inr h)) = let p = h .0 in (λ e. absurd (omega arith), λ e. absurd (h .1 (inl e)))
-
-  idle : (number ≡ 5) ↔ (committing ≡ 5)
-  idle = go numbers
-    where
-      go : Numbers → (number ≡ 5) ↔ (committing ≡ 5)
-      go (inl h) = let p = h .0 in let q = h .1 in (λ e. absurd (omega arith), λ e. absurd (omega arith))
-      go (inr (inl h)) = (λ _. h .1, λ _. h .0)
-      go (inr (inr h)) = let p = h .0 in (λ e. absurd (omega arith), λ e. absurd (h .1 (inr e)))
+      go : Numbers → (number ≡ k) ↔ (committing ≡ k)
+      go (inl h) = (λ e. sym (h .0) ∙ e, λ e. h .0 ∙ e)
+      go (inr (z, inl c)) = (λ e. absurd (omega arith), λ e. absurd (omega arith))
+      go (inr (z, inr c)) = (λ e. absurd (omega arith), λ e. absurd (omega arith))
 
   no-other : (number ≡ 0) ⊎ ((number ≡ 1) ⊎ (number ≡ 5))
-  no-other = go numbers
-    where
-      go : Numbers → (number ≡ 0) ⊎ ((number ≡ 1) ⊎ (number ≡ 5))
-      go (inl h) = inr (inl (h .0))
-      go (inr (inl h)) = inr (inr (h .0))
-      go (inr (inr h)) = inl (h .0)
+  no-other = ⊎-elim (λ h. inr (h .1)) (λ h. inl (h .0)) numbers
 
   -- ---- where it is done
   module _ (e : number ≡ 0) where
@@ -176,8 +160,8 @@ shows-current t b bytes isSound inv s shown place =
 pub diagnose-exact : DiagnoseExact
 diagnose-exact =
     record {
-      unsound = unsound;
-      idle = idle;
+      unsound = λ t. same-number t 1 (omega arith) (omega arith);
+      idle = λ t. same-number t 5 (omega arith) (omega arith);
       noOther = no-other;
       commit-number = commit-number;
       shows = shows;

@@ -45,13 +45,6 @@ module _ (c : List ℕ) (set : ℕ) where
       go zero z e = clash e (no-place-figure .0 z)
       go (suc x) z e = omega arith
 
-  pub place-fits : placeFigure (firstRead c set) ≤ 8
-  place-fits = go (placeFigure (firstRead c set)) refl
-    where
-      go : (x : ℕ) → placeFigure (firstRead c set) ≡ x → x ≤ 8
-      go zero e = omega arith
-      go (suc k) e = let f = promise .first-read c set k .0 (promise .figure-at (firstRead c set) k .0 e) .0 in omega arith
-
 module _ (v : State) where
   -- a round that is heard has found something
   pub found : heard v ≡ true → Found v

@@ -8,8 +8,8 @@ use Rattle.basics.specs.Bytes.{AreBytes}
 use Rattle.quorum.specs.Configurations.{holdsWrite}
 use Rattle.layout.specs.Rounds.{withPoll}
 use Rattle.layout.specs.Newest.{byGeneration, hears}
-use Rattle.layout.specs.View.{Table, view, own, foundByGeneration, onBus}
-use Rattle.layout.proofs.Newer.{station-fits}
+use Rattle.layout.specs.View.{Table, view, own, onBus}
+use Rattle.layout.proofs.Newer.{station-fits, place-fits}
 use Rattle.layout.proofs.Soundness.{is-sound}
 use Rattle.rules.specs.Calls.{Call, commit}
 use Rattle.rules.specs.Figures.{figuresOf, noFigures}
@@ -21,7 +21,6 @@ use Rattle.rules.proofs.Judged.{judged}
 use Rattle.rules.proofs.Views.{Fit, closing-fits}
 use Rattle.rules.proofs.Laws.{commit-heard, commit-unspent, done-allowed}
 use Rattle.rules.proofs.Demand1.{refusal-has-no-figures, reply-figures, number-is-listed}
-use Rattle.rules.proofs.Quorums.{place-fits}
 
 at-most-3 : (a b : Bool) → cond a (cond b 3 1) 0 < 2 ^ 64
 at-most-3 true true = omega arith
@@ -32,7 +31,7 @@ module _ (t : Table) (b : AreBytes t) where
   figured-fits : {c : Call} → HasFigures c → Allowed (view t) c → Fit (figuresOf (view t) c)
   unfolding figuresOf needs replyOf
   figured-fits (of-poll {s}) a =
-      let place = place-fits (byGeneration (own (view t)) (withPoll (view t .round) s .polled) (view t .n) .config) (withPoll (view t .round) s .polled) in
+      let place = place-fits (own (view t)) (withPoll (view t .round) s .polled) (view t .n) in
       (omega arith, omega arith, omega arith)
   figured-fits of-commit a = closing-fits t b (view t .round .kind) (commit-heard t a) (commit-unspent t a)
   figured-fits (of-reach {i}) a =
@@ -44,7 +43,7 @@ module _ (t : Table) (b : AreBytes t) where
       let number = number-is-listed t commit in
       let station = station-fits (λ s. own v s .version) (v .round .polled) (v .n) in
       let few = is-sound t (a .0) .small in
-      let place = place-fits (foundByGeneration v .config) (v .round .polled) in
+      let place = place-fits (own v) (v .round .polled) (v .n) in
       (omega arith, omega arith, omega arith)
 
   done-fits : (c : Call) → Allowed (view t) c → Fit (figuresOf (view t) c)

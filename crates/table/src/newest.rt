@@ -1,8 +1,8 @@
 // What the copies of an item at the stations of a set give: the newest by version and the newest by generation.
 ghost use mathlib.Core.Path.{_≡_};
 ghost use Prim.Native.Nat.{_<_, _≤_};
-ghost use Rattle.layout.specs.Newest.{newest, newer, stationFigure};
-ghost use Rattle.table.specs.Search.{asOption, Below, InTable, versionsOf, generationsOf};
+ghost use Rattle.layout.specs.Newest.{newest, newer, versionStation, generationStation, stationFigure};
+ghost use Rattle.table.specs.Search.{asOption, Below, InTable, copiesOf, versionsOf, generationsOf};
 use crate::copy::address;
 use crate::copy::generation_at;
 use crate::copy::version_at;
@@ -98,8 +98,8 @@ fn newest_generation(t: &[u8], n: usize, item: usize, set: u16) -> Station
 // Both searches.
 pub fn search(t: &[u8], n: usize, item: usize, set: u16) -> Newest
     requires { ⌜ InTable (now t) n item ⌝ }
-    ensures { λ r. ⌜ asOption (r .«by_version») ≡ newest (versionsOf (now (t .entry)) n item) set n ⌝ }
-    ensures { λ r. ⌜ asOption (r .«by_generation») ≡ newest (generationsOf (now (t .entry)) n item) set n ⌝ }
+    ensures { λ r. ⌜ asOption (r .«by_version») ≡ versionStation (copiesOf (now (t .entry)) n item) set n ⌝ }
+    ensures { λ r. ⌜ asOption (r .«by_generation») ≡ generationStation (copiesOf (now (t .entry)) n item) set n ⌝ }
 {
     Newest {
         by_version: newest_version(t, n, item, set),

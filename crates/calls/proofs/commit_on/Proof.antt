@@ -1,18 +1,18 @@
-use mathlib.Core.Path.{ap, _∙_}
-use native.Mathlib.Omega.{arith}
+use mathlib.Core.Path.{refl, sym, ap, _∙_}
 use borrow.Author.Needs.{needs}
 use Rattle.layout.specs.View.{view}
 use Rattle.layout.proofs.Soundness.{sound-head, is-sound}
 use Rattle.rounds.proofs.Hearing.{items-in-table}
-use Rattle.rules.proofs.Judged.{a-round}
-use Rattle.numbers.proofs.Refusals.{is-idle, is-open}
+use Rattle.rules.specs.Calls.{abandon}
+use Rattle.rules.specs.Needs.{needs as calls-needs}
+use Rattle.openings.proofs.Replies.{shown}
 use Rattle.closing.proofs.Answers.{idle-reply}
 use Rattle.calls.proofs.Committing.{commit-refused, commit-finished}
 use Rattle.calls.proofs.commit_on.Statement.{statement}
 use Rattle.calls.proofs.commit_on.Tie as tie
 
--- from the kind that was read, and from the look ahead, back to the call
-abbrev called : tie.After-kind → tie.Start
+-- from the number asked for, and from the look ahead, back to the call
+abbrev called : tie.After-idle-number → tie.Start
 called c = c .before .before .before
 
 abbrev looked : tie.After-look-ahead → tie.Start
@@ -22,8 +22,8 @@ looked c = called (c .before .before .before)
 abbrev ahead : tie.After-stations → tie.After-look-ahead
 ahead c = c .before .before .before .before .before .before
 
-kind-requires : tie.Need-kind-requires
-kind-requires c κs = sound-head _ (c .before .before .pre)
+idle-number-requires : tie.Need-idle-number-requires
+idle-number-requires c κs = search needs
 
 plain-requires : tie.Need-plain-requires
 plain-requires c κs = search needs
@@ -32,18 +32,18 @@ same-length : tie.Need-same-length
 same-length c = search needs
 
 returns : tie.Need-returns
-unfolding view
 returns c =
     let asked = c .before .before in
-    let idle = is-idle (asked .kind .ensures) (c .before .if1 .taken) in
-    let five = ap (λ r. r .number) (c .plain .ensures) in
-    commit-refused _ (c .plain .ensures ∙ idle-reply _ (called asked .pre) idle) (λ z. omega arith)
+    let refused = c .before .if1 .taken in
+    let told = c .plain .ensures in
+    commit-refused _ (told ∙ idle-reply _ (called asked .pre) (asked .idle-number .ensures) refused) (λ z. refused (sym (ap (λ r. r .number) told) ∙ z))
 
 look-ahead-requires : tie.Need-look-ahead-requires
-unfolding view
+unfolding calls-needs
 look-ahead-requires c κs =
     let left = c .before in
-    let asked = left .before in (called asked .pre, a-round _ .0 (is-open (asked .kind .ensures) (left .if1 .left)))
+    let asked = left .before in
+    let s = called asked .pre in (s, shown _ s abandon refl (asked .idle-number .ensures) (left .if1 .left) .1 .0)
 
 same-length-2 : tie.Need-same-length-2
 same-length-2 c = search needs
@@ -79,7 +79,7 @@ pub commit-on-spec : {M : Type 1} → statement M
 commit-on-spec =
     tie.close
     (tie.spec
-    kind-requires
+    idle-number-requires
     plain-requires
     same-length
     returns

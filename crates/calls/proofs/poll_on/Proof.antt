@@ -5,12 +5,13 @@ use Rattle.layout.specs.Rounds.{withPoll}
 use Rattle.layout.specs.Updates.{setPolled}
 use Rattle.layout.specs.View.{Table, view}
 use Rattle.layout.proofs.Soundness.{sound-head}
+use Rattle.layout.proofs.Newer.{place-fits}
 use Rattle.rounds.specs.Round.{asRound}
 use Rattle.numbers.proofs.Refusals.{own-copies}
 use Rattle.rules.specs.Calls.{poll}
 use Rattle.rules.specs.After.{done}
 use Rattle.openings.proofs.Replies.{refused, finished}
-use Rattle.calls.proofs.Figures.{poll-figure, place-small}
+use Rattle.calls.proofs.Figures.{poll-figure}
 use Rattle.calls.proofs.poll_on.Statement.{statement}
 use Rattle.calls.proofs.poll_on.Tie as tie
 
@@ -62,7 +63,7 @@ set-polled-requires c κs = sound-head _ (at-poll (c .before .before .before .be
 
 place-figure-requires : tie.Need-place-figure-requires
 place-figure-requires c κs =
-    let found = c .before .before .before .before in place-small _ _ _ _ (found .heard-place .ensures)
+    let found = c .before .before .before .before in rw (found .heard-place .ensures) (place-fits _ _ _)
 
 same-length-2 : tie.Need-same-length-2
 same-length-2 c = search needs

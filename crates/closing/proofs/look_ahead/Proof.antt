@@ -2,7 +2,7 @@ use mathlib.Core.Path.{ap}
 use Rattle.layout.proofs.Soundness.{sound-head}
 use Rattle.closing.specs.Closing.{OwnFound}
 use Rattle.numbers.proofs.Refusals.{own-copies}
-use Rattle.closing.proofs.Hears.{own-found, station-shown, place-shown, station-small, place-small}
+use Rattle.closing.proofs.Hears.{own-found, shows-station, shows-place, station-small, place-small}
 use Rattle.closing.proofs.look_ahead.Statement.{statement}
 use Rattle.closing.proofs.look_ahead.Tie as tie
 
@@ -41,8 +41,8 @@ returns c =
     let f = reply .before in (
       reply .commit-reply .ensures,
       (
-        station-shown _ (f .find .result) (found f) (station .station-figure .ensures),
-        place-shown _ (f .find .result) (found f) (c .place-figure .ensures),
+        shows-station _ (f .find .result) (found f) (station .station-figure .ensures),
+        shows-place _ (f .find .result) (found f) (c .place-figure .ensures),
       ),
     )
 

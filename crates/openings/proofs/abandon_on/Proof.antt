@@ -8,8 +8,8 @@ use borrow.Author.Needs.{needs}
 use Rattle.openings.proofs.abandon_on.Statement.{statement}
 use Rattle.openings.proofs.abandon_on.Tie as tie
 
-abandon-number-requires : tie.Need-abandon-number-requires
-abandon-number-requires c κs = search needs
+idle-number-requires : tie.Need-idle-number-requires
+idle-number-requires c κs = search needs
 
 plain-requires : tie.Need-plain-requires
 plain-requires c κs = search needs
@@ -21,7 +21,7 @@ returns : tie.Need-returns
 returns c =
     let asked = c .before .before in
     let s = asked .before .before .before .pre in
-    refused _ s abandon refl (asked .abandon-number .ensures) (c .before .if1 .taken) (c .plain .ensures)
+    refused _ s abandon refl (asked .idle-number .ensures) (c .before .if1 .taken) (c .plain .ensures)
 
 set-round-requires : tie.Need-set-round-requires
 set-round-requires c κs = sound-head _ (c .before .before .before .before .before .pre)
@@ -39,13 +39,13 @@ returns-2 c =
     let allowed = written .before .before in
     let asked = allowed .before in
     let s = asked .before .before .before .pre in
-    plain-finished _ s abandon refl (asked .abandon-number .ensures) refl (allowed .if1 .left) (c .plain2 .ensures) (written .set-round .ensures)
+    plain-finished _ s abandon refl (asked .idle-number .ensures) refl (allowed .if1 .left) (c .plain2 .ensures) (written .set-round .ensures)
 
 pub abandon-on-spec : {M : Type 1} → statement M
 abandon-on-spec =
     tie.close
     (tie.spec
-    abandon-number-requires
+    idle-number-requires
     plain-requires
     same-length
     returns

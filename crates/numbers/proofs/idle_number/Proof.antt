@@ -2,8 +2,8 @@ use Rattle.layout.specs.View.{view}
 use Rattle.layout.proofs.Soundness.{sound-head}
 use Rattle.rules.specs.Rules.{first, tests}
 use Rattle.numbers.proofs.Refusals.{is-idle, is-open}
-use Rattle.numbers.proofs.abandon_number.Statement.{statement}
-use Rattle.numbers.proofs.abandon_number.Tie as tie
+use Rattle.numbers.proofs.idle_number.Statement.{statement}
+use Rattle.numbers.proofs.idle_number.Tie as tie
 
 kind-requires : tie.Need-kind-requires
 kind-requires c κs = sound-head _ (c .before .pre)
@@ -16,5 +16,5 @@ returns-2 : tie.Need-returns-2
 unfolding tests first view
 returns-2 c = rw (is-open (c .before .kind .ensures) (c .if1 .left))
 
-pub abandon-number-spec : {M : Type 1} → statement M
-abandon-number-spec = tie.close (tie.spec kind-requires returns returns-2)
+pub idle-number-spec : {M : Type 1} → statement M
+idle-number-spec = tie.close (tie.spec kind-requires returns returns-2)
