@@ -1,4 +1,5 @@
 pub mod Tests
+pub mod Listing
 pub mod Bytes
 pub mod Parts
 pub mod Writing

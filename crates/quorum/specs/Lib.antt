@@ -1,3 +1,4 @@
 pub mod Sets
+pub mod Orders
 pub mod Configurations
 pub mod Promise

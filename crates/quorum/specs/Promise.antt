@@ -11,6 +11,7 @@ use lib.ListN.{length}
 use lib.Bits.{bitAnd}
 use Rattle.basics.specs.Tests.{Some}
 use Rattle.quorum.specs.Sets.{member, used, holds, shares, within, join, unite, minus, remove, lowest, full}
+use Rattle.quorum.specs.Orders.{among, joined}
 use Rattle.quorum.specs.Configurations.{configSize, readSet, writeSet, valid, firstPlace}
 use Rattle.quorum.specs.Configurations.{firstRead, firstWrite, placeFigure, isPlace, holdsRead, holdsWrite}
 use Rattle.quorum.specs.declared.Place.{Place}
@@ -91,6 +92,7 @@ pub record Promise : Type 0 where
   -- ---- members
   pub member-empty : (i : ℕ) → member 0 i ≡ false
   pub member-join : (a i k : ℕ) → k < 16 → member (join a k) i ≡ (member a i || eqb i k)
+  pub member-joined : (order : List ℕ) (a i : ℕ) → ((s : ℕ) → among order s ≡ true → s < 16) → member (joined a order) i ≡ (member a i || among order i)
   pub member-unite : (a b i : ℕ) → member (unite a b) i ≡ (member a i || member b i)
   pub member-minus : (a b i : ℕ) → member (minus a b) i ≡ (member a i && not (member b i))
   pub member-remove : (a i k : ℕ) → member (remove a k) i ≡ (member a i && not (eqb i k))

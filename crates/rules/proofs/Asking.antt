@@ -10,6 +10,7 @@ use borrow.Author.Tests.{eq-eqb, lt-ltb, ltb-true, not-true}
 use Rattle.basics.specs.Bytes.{AreBytes}
 use Rattle.basics.proofs.Tests.{or-left, or-right, and-left, and-right, and-both}
 use Rattle.quorum.specs.Sets.{member, join}
+use Rattle.quorum.specs.Orders.{among, joined}
 use Rattle.quorum.specs.Configurations.{placeFigure}
 use Rattle.layout.specs.Fields.{Kind, none, read, write, change, Round}
 use Rattle.layout.specs.Newest.{heardPlace}
@@ -24,7 +25,7 @@ use Rattle.rules.specs.Reply.{replyOf, reply, after}
 use Rattle.rules.specs.Lists.{replies, afterAll}
 use Rattle.rules.specs.Needs.{needs}
 use Rattle.rules.specs.Alike.{Alike}
-use Rattle.rules.specs.ReachExact.{among, polls, puts, AllDone, lastFigure}
+use Rattle.rules.specs.ReachExact.{polls, puts, AllDone, lastFigure}
 use Rattle.rules.proofs.Judged.{is-done, a-round, at-station, sound-number}
 use Rattle.rules.proofs.Demand1.{refusal-changes-nothing}
 use Rattle.rules.proofs.Steps.{on-members}
@@ -50,11 +51,6 @@ first-on v s order on = on s (or-left (eqb s s) (among order s) (eq-eqb s s refl
 
 rest-on : (v : State) (s : ℕ) (order : List ℕ) → ThoseOn v (s ∷ order) → ThoseOn v order
 rest-on v s order on k m = on k (or-right (eqb k s) (among order k) m)
-
--- the stations of a list join a set
-abbrev pub joined : ℕ → List ℕ → ℕ
-joined set [] = set
-joined set (s ∷ order) = joined (join set s) order
 
 -- a round with puts at them
 abbrev pub withAll : ℕ → Round → List ℕ → Round

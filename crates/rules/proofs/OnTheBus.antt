@@ -9,7 +9,8 @@ use lib.Dec.{eqb}
 use borrow.Author.Tests.{eqb-true, eq-eqb}
 use Rattle.basics.specs.Bytes.{AreBytes}
 use Rattle.basics.proofs.Tests.{clash, and-left, and-right, and-both, or-left, or-right}
-use Rattle.quorum.specs.Sets.{member, join}
+use Rattle.quorum.specs.Sets.{member}
+use Rattle.quorum.specs.Orders.{among, joined}
 use Rattle.quorum.specs.Promise.{QuorumIn}
 use Rattle.quorum.specs.Configurations.{writeSet, placeFigure, holdsWrite}
 use Rattle.quorum.proofs.Promise.{promise}
@@ -30,7 +31,7 @@ use Rattle.rules.specs.Figures.{figuresOf, closing}
 use Rattle.rules.specs.Reply.{replyOf, reply, after}
 use Rattle.rules.specs.Lists.{replies, afterAll}
 use Rattle.rules.specs.Needs.{needs}
-use Rattle.rules.specs.ReachExact.{among, AllOn, polls, puts, Opens, of-read, of-write, of-change}
+use Rattle.rules.specs.ReachExact.{AllOn, polls, puts, Opens, of-read, of-write, of-change}
 use Rattle.rules.specs.ReachExact.{Readable, AllDone, lastFigure, PollsSay, Closes, SpentOn}
 use Rattle.rules.proofs.Judged.{numbered, a-round}
 use Rattle.rules.proofs.Demand1.{Shows, reply-figures}
@@ -38,29 +39,14 @@ use Rattle.rules.proofs.Steps.{three}
 use Rattle.rules.proofs.Quorums.{no-place-figure, a-place-figure, place-shown}
 use Rattle.rules.proofs.Laws.{done-allowed, next-view, length-kept, bytes-kept}
 use Rattle.rules.proofs.Kept.{after-sound}
-use Rattle.rules.proofs.Asking.{on-bus, joined, all-data, all-config, Asking, same-reply, commit-number, all-polled, AllPut, all-put}
+use Rattle.rules.proofs.Asking.{on-bus, all-data, all-config, Asking, same-reply, commit-number, all-polled, AllPut, all-put}
 
 -- ---- all stations on the bus join the empty set
-or-none : (b : Bool) → b ≡ (b || false)
-or-none true = refl
-or-none false = refl
-
-or-three : (a b c : Bool) → ((a || b) || c) ≡ (a || (b || c))
-or-three true b c = refl
-or-three false b c = refl
-
-joined-members : (order : List ℕ) → ((s : ℕ) → among order s ≡ true → s < 16) → (set i : ℕ) → member (joined set order) i ≡ (member set i || among order i)
-joined-members [] few set i = or-none (member set i)
-joined-members (s ∷ order) few set i =
-    joined-members order (λ k m. few k (or-right (eqb k s) (among order k) m)) (join set s) i
-    ∙ ap (λ b. b || among order i) (promise .member-join set i s (few s (or-left (eqb s s) (among order s) (eq-eqb s s refl))))
-    ∙ or-three (member set i) (eqb i s) (among order i)
-
 all-joined : (v : State) → v .n ≤ 16 → (order : List ℕ) → AllOn v order → joined 0 order ≡ onBus v
 all-joined v few order all =
     let low : (s : ℕ) → among order s ≡ true → s < 16 = λ s m. let x = on-bus v few s .0 (sym (all s) ∙ m) .0 in omega arith in
     let same : (i : ℕ) → member (joined 0 order) i ≡ member (onBus v) i = λ i.
-    joined-members order low 0 i ∙ ap (λ b. b || among order i) (promise .member-empty i) ∙ all i in
+    promise .member-joined order 0 i low ∙ ap (λ b. b || among order i) (promise .member-empty i) ∙ all i in
     promise .same-members (joined 0 order) (onBus v) (λ i m. sym (same i) ∙ m) (λ i m. same i ∙ m)
 
 -- ---- what the figure's two tests say

@@ -5,13 +5,13 @@
 -- finishes; where it is 1 none of them finds a configuration whose write sets they hold. And where it is 1 or 3, the read that polls them all gives the book's
 -- figures.
 use mathlib.Core.Path.{_≡_}
-use mathlib.Core.Bool.{Bool, true, false, _||_}
+use mathlib.Core.Bool.{true, false}
 use mathlib.Core.List.{List, [], _∷_, _++_}
 use mathlib.Core.Logic.{_↔_, _⊎_}
 use Prim.Native.Nat.{ℕ, _-_, _^_, _≤_}
-use lib.Dec.{eqb}
 use Rattle.basics.specs.Bytes.{AreBytes}
 use Rattle.quorum.specs.Sets.{member}
+use Rattle.quorum.specs.Orders.{among}
 use Rattle.quorum.specs.Configurations.{writeSet}
 use Rattle.quorum.specs.Promise.{QuorumIn, _⊆_}
 use Rattle.layout.specs.Fields.{Copy, none, change}
@@ -28,11 +28,6 @@ use Rattle.rules.specs.Steps.{SameCopies, PlaceShown}
 use Rattle.rules.specs.declared.Reply.{Reply}
 
 -- ---- all stations on the bus, in any order
--- a station is in a list
-abbrev pub among : List ℕ → ℕ → Bool
-among [] s = false
-among (k ∷ rest) s = eqb s k || among rest s
-
 -- the list has all stations on the bus, and no others; one may come twice
 abbrev pub AllOn : State → List ℕ → Type 0
 AllOn v order = (s : ℕ) → among order s ≡ member (onBus v) s

@@ -7,7 +7,8 @@ use Rattle.basics.specs.Tests.{all, allBelow}
 use Rattle.basics.specs.Bytes.{bytesOf}
 use Rattle.quorum.specs.Sets.{member, minus, remove}
 use Rattle.rules.specs.Rules.{first}
-use Rattle.votes.specs.Votes.{sumBelow, votesOf, total, reaches, smallest, passing, smallestSets, trueVotes, tooMany}
+use Rattle.basics.specs.Listing.{passing}
+use Rattle.votes.specs.Votes.{sumBelow, votesOf, total, reaches, smallest, smallestSets, trueVotes, tooMany}
 use Rattle.votes.specs.Votes.{votesRefusals, votesNumber, places, sideBytes, configurationOf, votesOutput}
 
 abbrev blank : List ℕ

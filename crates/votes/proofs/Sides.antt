@@ -16,7 +16,8 @@ use Rattle.quorum.proofs.Promise.{promise}
 use Rattle.votes.specs.Votes.{total, smallestSets}
 use Rattle.votes.specs.Claims.{Reaches, Smallest, MoreThanEight, ListsSmallest}
 use Rattle.votes.proofs.Laws.{votes-grow, sets-share, votes-full, holds-smallest}
-use Rattle.votes.proofs.Listing.{Listing, smallest-listing, at-most-eight}
+use Rattle.basics.specs.Listing.{Listing}
+use Rattle.votes.proofs.Listing.{smallest-listing, at-most-eight}
 
 -- only the places of the list are used
 used-place : (l : List ℕ) (k : ℕ) → used (getD l k 0) ≡ true → k < length l

@@ -7,6 +7,7 @@ use Prim.Native.Nat.{ℕ, zero, suc, _+_, _^_}
 use lib.Dec.{ltb, leb, eqb}
 use lib.ListN.{length, getD}
 use Rattle.basics.specs.Tests.{all, allBelow}
+use Rattle.basics.specs.Listing.{passing}
 use Rattle.basics.specs.Bytes.{bytesOf}
 use Rattle.quorum.specs.Sets.{member, remove}
 use Rattle.quorum.specs.Configurations.{configSize}
@@ -34,11 +35,6 @@ reaches votes threshold set = leb threshold (votesOf votes set)
 unfoldable pub smallest : List ℕ → ℕ → ℕ → Bool
 smallest votes threshold set =
     reaches votes threshold set && allBelow (λ i. not (member set i) || not (reaches votes threshold (remove set i))) (length votes)
-
--- the numbers below a bound that pass a test, rising
-unfoldable pub passing : (ℕ → Bool) → ℕ → List ℕ
-passing test zero = []
-passing test (suc k) = passing test k ++ cond (test k) (k ∷ []) []
 
 -- "the smallest sets that reach each threshold, rising as numbers"
 unfoldable pub smallestSets : List ℕ → ℕ → List ℕ

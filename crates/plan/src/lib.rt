@@ -1,0 +1,1 @@
+// How many polls and puts a round will take: definitions and laws.
