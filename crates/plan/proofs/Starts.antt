@@ -40,19 +40,20 @@ among-first (x ∷ order) (suc k) s = (
     back rest zero l h e = or-left (eqb s x) (among (take k order) s) (eq-eqb s x (sym e))
     back rest (suc j) l h e = or-right (eqb s x) (among (take k order) s) (rest (j, omega arith, (omega arith, e)))
 
-module _ (set n : ℕ) (few : n ≤ 16) where
+module _ (set : ℕ) where
   abbrev order : List ℕ
-  order = rising set n
+  order = rising set
 
   abbrev Placed : ℕ → ℕ → Type 0
   Placed k s = Some (length order) (λ j. (j < k) × (getD order j 0 ≡ s))
 
-  placed : (k s : ℕ) → Placed k s → (s < n) × (member set s ≡ true)
-  placed k s p = let x = listing (member set) n .only (p .0) (p .1) in rw (p .2 .1) at x
+  placed : (k s : ℕ) → Placed k s → (s < 16) × (member set s ≡ true)
+  placed k s p = let x = listing (member set) 16 .only (p .0) (p .1) in rw (p .2 .1) at x
 
   pub has : (k s : ℕ) → (member (start order k) s ≡ true) ↔ Placed k s
   has k s =
-      let low : (i : ℕ) → among (take k order) i ≡ true → i < 16 = λ i m. let x = placed k i (among-first order k i .0 m) .0 in omega arith in
+      let low : (i : ℕ) → among (take k order) i ≡ true → i < 16 = λ i m.
+      placed k i (among-first order k i .0 m) .0 in
       let e : member (start order k) s ≡ among (take k order) s = promise .member-joined (take k order) 0 s low
       ∙ ap (λ b. b || among (take k order) s) (promise .member-empty s) in
       (λ m. among-first order k s .0 (sym e ∙ m), λ p. e ∙ among-first order k s .1 p)
@@ -64,9 +65,9 @@ module _ (set n : ℕ) (few : n ≤ 16) where
   pub start-more : (j k : ℕ) → j ≤ k → start order j ⊆ start order k
   start-more j k l s m = let p = has j s .0 m in let h = p .2 .0 in has k s .1 (p .0, p .1, (omega arith, p .2 .1))
 
-  -- the longest has all stations below n
-  pub start-whole : (s : ℕ) → s < n → member set s ≡ true → member (start order (length order)) s ≡ true
-  start-whole s l m = let p = listing (member set) n .every s (l, m) in has (length order) s .1 (p .0, p .1, (p .1, p .2))
+  -- the longest has them all
+  pub start-whole : (s : ℕ) → s < 16 → member set s ≡ true → member (start order (length order)) s ≡ true
+  start-whole s l m = let p = listing (member set) 16 .every s (l, m) in has (length order) s .1 (p .0, p .1, (p .1, p .2))
 
 -- ---- the first start that passes a test
 module _ (test : ℕ → Bool) (order : List ℕ) where
@@ -146,8 +147,8 @@ module _ (test : ℕ → Bool) (order : List ℕ) where
 pub starts : Starts
 starts =
     record {
-      rises = λ set n. listing (member set) n;
-      has = λ set n k s few. has set n few k s;
+      rises = λ set. listing (member set) 16;
+      has = has;
       passes-first = passes-first;
       none-passes = none-passes;
     }

@@ -10,15 +10,15 @@ use Rattle.plan.specs.Starts.{rising, start, firstStart}
 
 -- the polls: the first start that is heard, by what its own copies give. Where there is none the item is out of hearing.
 unfoldable pub pollsNeeded : (ℕ → Copy) → ℕ → ℕ → Place
-pollsNeeded copies on n = firstStart (λ set. hears copies set n) (rising on n)
+pollsNeeded copies on n = firstStart (λ set. hears copies set n) (rising on)
 
 -- the stations that are polled so, and the copy that gives the configuration found by them
 abbrev pub firstHeard : (ℕ → Copy) → ℕ → ℕ → ℕ
-firstHeard copies on n = start (rising on n) (placeFigure (pollsNeeded copies on n))
+firstHeard copies on n = start (rising on) (placeFigure (pollsNeeded copies on n))
 
 abbrev pub foundFirst : (ℕ → Copy) → ℕ → ℕ → Copy
 foundFirst copies on n = byGeneration copies (firstHeard copies on n) n
 
 -- the puts: the first start that holds a write set of that configuration, of all stations on the bus and not only of those polled
 unfoldable pub putsNeeded : (ℕ → Copy) → ℕ → ℕ → Place
-putsNeeded copies on n = firstStart (holdsWrite (foundFirst copies on n .config)) (rising on n)
+putsNeeded copies on n = firstStart (holdsWrite (foundFirst copies on n .config)) (rising on)

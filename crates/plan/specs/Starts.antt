@@ -12,9 +12,9 @@ use Rattle.quorum.specs.Orders.{joined}
 use Rattle.quorum.specs.Configurations.{firstPlace, placeFigure}
 use Rattle.quorum.specs.declared.Place.{Place}
 
--- the stations of a set below n, in rising number
-abbrev pub rising : ℕ → ℕ → List ℕ
-rising set n = passing (member set) n
+-- the stations of a set of 16 bits, in rising number
+abbrev pub rising : ℕ → List ℕ
+rising set = passing (member set) 16
 
 -- a start of an order: its first k stations, as a set
 abbrev pub start : List ℕ → ℕ → ℕ
@@ -28,10 +28,9 @@ firstStart test order = firstPlace (λ k. test (start order (suc k))) (length or
 -- the same by quantifiers
 pub record Starts : Type 0 where
   -- the rising order has the stations of the set, each once
-  pub rises : (set n : ℕ) → Listing (λ s. (s < n) × (member set s ≡ true)) (rising set n)
+  pub rises : (set : ℕ) → Listing (λ s. (s < 16) × (member set s ≡ true)) (rising set)
   -- its start of k stations has those at places below k, and no others
-  pub has : (set n k s : ℕ) → n ≤ 16
-      → (member (start (rising set n) k) s ≡ true) ↔ Some (length (rising set n)) (λ j. (j < k) × (getD (rising set n) j 0 ≡ s))
+  pub has : (set k s : ℕ) → (member (start (rising set) k) s ≡ true) ↔ Some (length (rising set)) (λ j. (j < k) × (getD (rising set) j 0 ≡ s))
   -- the first start that passes a test has k stations, k from 1 on: it passes, and no shorter one does
   pub passes-first : (test : ℕ → Bool) (order : List ℕ) (k : ℕ) → 1 ≤ k → (placeFigure (firstStart test order) ≡ k)
       ↔ ((k ≤ length order) × (test (start order k) ≡ true) × ((j : ℕ) → 1 ≤ j → j < k → test (start order j) ≡ false))
