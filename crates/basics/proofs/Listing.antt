@@ -3,7 +3,7 @@ use mathlib.Core.Path.{_≡_, _∙_}
 use mathlib.Core.Bool.{Bool, true, false, cond}
 use mathlib.Core.List.{List, [], _∷_, _++_, append-nil}
 use mathlib.Core.Logic.{_↔_}
-use Prim.Native.Nat.{ℕ, zero, suc, _<_}
+use Prim.Native.Nat.{ℕ, zero, suc, _+_, _≤_, _<_}
 use native.Mathlib.Nat.{not-suc-le-zero}
 use native.Mathlib.Numerals.{add-one}
 use native.Mathlib.Omega.{arith}
@@ -68,3 +68,12 @@ module _ (test : ℕ → Bool) where
   listing (suc n) =
       by-cases (λ (b : Bool). Listing (Passes (suc n)) (passing test n ++ cond b (n ∷ []) [])) (test n)
       (λ t. one-more n (passing test n) t (listing n)) (λ f. no-more n (passing test n) f (listing n))
+
+  -- they are not more than the bound
+  pub passing-few : (n : ℕ) → length (passing test n) ≤ n
+  unfolding passing
+  passing-few zero = omega arith
+  passing-few (suc n) =
+      rw (length-append (passing test n) (cond (test n) (n ∷ []) []))
+      (by-cases (λ (b : Bool). length (passing test n) + length (cond b (n ∷ []) []) ≤ suc n) (test n)
+      (λ _. omega (arith, passing-few n)) (λ _. omega (arith, passing-few n)))

@@ -6,6 +6,7 @@ use Rattle.quorum.specs.Configurations.{placeFigure, holdsWrite}
 use Rattle.quorum.specs.declared.Place.{Place}
 use Rattle.layout.specs.Fields.{Copy}
 use Rattle.layout.specs.Newest.{byGeneration, hears}
+use Rattle.layout.specs.View.{State, onBus}
 use Rattle.plan.specs.Starts.{rising, start, firstStart}
 
 -- the polls: the first start that is heard, by what its own copies give. Where there is none the item is out of hearing.
@@ -22,3 +23,14 @@ foundFirst copies on n = byGeneration copies (firstHeard copies on n) n
 -- the puts: the first start that holds a write set of that configuration, of all stations on the bus and not only of those polled
 unfoldable pub putsNeeded : (ℕ → Copy) → ℕ → ℕ → Place
 putsNeeded copies on n = firstStart (holdsWrite (foundFirst copies on n .config)) (rising on)
+
+-- ---- the same of a table's state: an open round does not matter
+-- the k lowest stations on the bus
+abbrev pub startOn : State → ℕ → ℕ
+startOn v k = start (rising (onBus v)) k
+
+abbrev pub plannedPolls : State → ℕ → Place
+plannedPolls v i = pollsNeeded (v .copies i) (onBus v) (v .n)
+
+abbrev pub plannedPuts : State → ℕ → Place
+plannedPuts v i = putsNeeded (v .copies i) (onBus v) (v .n)

@@ -19,7 +19,7 @@ use Rattle.quorum.proofs.Members.{member-empty, member-join, member-joi
 use Rattle.quorum.proofs.Members.{holds-member, member-holds, shares-members, used-member, within-members, within-join, within-unite, within-minus}
 use Rattle.quorum.proofs.Members.{lowest-member, below-lowest, remove-less, without-lowest}
 use Rattle.quorum.proofs.Validity.{valid-facts, facts-valid, first-used, place-lies, lies-place}
-use Rattle.quorum.proofs.Validity.{first-exactly, first-nowhere, no-place, a-place, figure-at, figure-nowhere}
+use Rattle.quorum.proofs.Validity.{first-exactly, first-nowhere, first-same, no-place, a-place, figure-at, figure-nowhere, figure-place, figure-none}
 
 -- ---- a side of a configuration: the first place whose set lies within, and whether there is one
 module _ (side : ℕ → ℕ) (set : ℕ) where
@@ -97,6 +97,7 @@ promise =
       all-write = λ n c v. let f = valid-facts n c v in whole n (writeSet c) (f .small) (f .writes);
       first-exactly = first-exactly;
       first-nowhere = first-nowhere;
+      first-same = first-same;
       first-read = λ c. first-in (readSet c);
       first-write = λ c. first-in (writeSet c);
       no-first-read = λ c. none-in (readSet c);
@@ -105,6 +106,8 @@ promise =
       no-place = no-place;
       figure-at = figure-at;
       figure-nowhere = figure-nowhere;
+      figure-place = figure-place;
+      figure-none = figure-none;
       valid-exactly = λ n c. (valid-facts n c, facts-valid n c);
       valid-stations = λ n c v. let f = valid-facts n c v in (f .positive, f .small);
       first-used = first-used;

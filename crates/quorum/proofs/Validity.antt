@@ -3,7 +3,7 @@ use mathlib.Core.Path.{_≡_, refl, ap}
 use mathlib.Core.Bool.{Bool, true, false, not, cond, _||_, true≢false, false≢true}
 use mathlib.Core.List.{List}
 use mathlib.Core.Logic.{_↔_, _⊎_, inl, inr, ⊎-elim}
-use Prim.Native.Nat.{ℕ, zero, suc, _+_, _<_}
+use Prim.Native.Nat.{ℕ, zero, suc, _+_, _≤_, _<_}
 use native.Mathlib.Nat.{not-suc-le-zero}
 use native.Mathlib.Numerals.{add-one}
 use native.Mathlib.Omega.{arith}
@@ -195,3 +195,18 @@ pub figure-nowhere : (place : Place) → (placeFigure place ≡ 0) ↔ (place �
 unfolding placeFigure
 figure-nowhere (At j) = (λ e. absurd (omega (arith, e)), λ e. let z : _≡_ {A = ℕ} 0 1 = cc e in absurd (omega arith))
 figure-nowhere Nowhere = (λ _. refl, λ _. refl)
+
+pub figure-place : (place : Place) → (1 ≤ placeFigure place) ↔ (isPlace place ≡ true)
+unfolding placeFigure isPlace
+figure-place (At k) = (λ _. refl, λ _. omega arith)
+figure-place Nowhere = (λ l. absurd (omega arith), λ e. absurd (false≢true e))
+
+pub figure-none : (place : Place) → (placeFigure place ≡ 0) ↔ (isPlace place ≡ false)
+unfolding placeFigure isPlace
+figure-none (At k) = (λ e. absurd (omega (arith, e)), λ e. absurd (true≢false e))
+figure-none Nowhere = (λ _. refl, λ _. refl)
+
+pub first-same : (p q : ℕ → Bool) (n : ℕ) → ((k : ℕ) → k < n → p k ≡ q k) → firstPlace p n ≡ firstPlace q n
+unfolding firstPlace
+first-same p q zero h = refl
+first-same p q (suc k) h = rw (first-same p q k (λ j l. h j (omega arith)), h k (omega arith))

@@ -70,6 +70,7 @@ pub record Promise : Type 0 where
   -- the first place below a bound of which a test holds, and that there is none
   pub first-exactly : (p : ℕ → Bool) (n k : ℕ) → (firstPlace p n ≡ At k) ↔ ((k < n) × (p k ≡ true) × ((j : ℕ) → j < k → p j ≡ false))
   pub first-nowhere : (p : ℕ → Bool) (n : ℕ) → (firstPlace p n ≡ Nowhere) ↔ ((k : ℕ) → k < n → p k ≡ false)
+  pub first-same : (p q : ℕ → Bool) (n : ℕ) → ((k : ℕ) → k < n → p k ≡ q k) → firstPlace p n ≡ firstPlace q n
   -- that of a side is the first whose set lies within, and there is none exactly if no set does
   pub first-read : (c : List ℕ) (set k : ℕ) → (firstRead c set ≡ At k) ↔ FirstIn (readSet c) set k
   pub first-write : (c : List ℕ) (set k : ℕ) → (firstWrite c set ≡ At k) ↔ FirstIn (writeSet c) set k
@@ -80,6 +81,8 @@ pub record Promise : Type 0 where
   pub no-place : (place : Place) → (isPlace place ≡ false) ↔ (place ≡ Nowhere)
   pub figure-at : (place : Place) (k : ℕ) → (placeFigure place ≡ suc k) ↔ (place ≡ At k)
   pub figure-nowhere : (place : Place) → (placeFigure place ≡ 0) ↔ (place ≡ Nowhere)
+  pub figure-place : (place : Place) → (1 ≤ placeFigure place) ↔ (isPlace place ≡ true)
+  pub figure-none : (place : Place) → (placeFigure place ≡ 0) ↔ (isPlace place ≡ false)
   -- ---- validity
   pub valid-exactly : (n : ℕ) (c : List ℕ) → (valid n c ≡ true) ↔ Valid n c
   pub valid-stations : (n : ℕ) (c : List ℕ) → valid n c ≡ true → (1 ≤ n) × (n ≤ 16)

@@ -6,11 +6,11 @@ use mathlib.Core.Logic.{_⊎_, inl, inr}
 use Prim.Native.Nat.{ℕ, zero, suc, _<_}
 use native.Mathlib.Omega.{arith}
 use lib.Dec.{ltb, eqb}
-use borrow.Author.Tests.{ne-eqb}
+use borrow.Author.Tests.{ltb-true, ne-eqb}
 use Rattle.basics.specs.Bytes.{AreBytes}
-use Rattle.basics.proofs.Tests.{clash}
+use Rattle.basics.proofs.Tests.{clash, either}
 use Rattle.quorum.specs.Sets.{member, join, remove}
-use Rattle.quorum.specs.Configurations.{placeFigure, valid}
+use Rattle.quorum.specs.Configurations.{placeFigure, isPlace, valid}
 use Rattle.layout.specs.Fields.{Kind, none, read, write, change}
 use Rattle.layout.specs.Rounds.{withPoll, withPut, withLink}
 use Rattle.layout.specs.Newest.{stationFigure, heardPlace}
@@ -18,15 +18,18 @@ use Rattle.layout.specs.View.{Table, State, view, own, foundByVersion, foundByG
 use Rattle.layout.proofs.Soundness.{is-sound}
 use Rattle.layout.proofs.Newer.{version-station-same, by-version-same, by-generation-same, place-same, hears-same}
 use Rattle.layout.proofs.Stored.{stored}
-use Rattle.rules.specs.Calls.{Call, lay, openRead, openWrite, openChange, poll, put, commit, abandon, link, reach, diagnose, isLay, isData, isOff}
+use Rattle.plan.specs.Plan.{plannedPolls, plannedPuts}
+use Rattle.plan.proofs.Plan.{polls-same, puts-same}
+use Rattle.rules.specs.Calls.{Call, lay, openRead, openWrite, openChange, poll, put, commit, abandon, link, reach, diagnose, plan, isLay, isData, isOff}
 use Rattle.rules.specs.Passed.{Passable}
-use Rattle.rules.specs.Rules.{tests, numberOf, first, idle, noSize, noSort, noLink, wrongPut, spent, spentAtPut, written}
+use Rattle.rules.specs.Rules.{tests, numberOf, first, idle, noItem, noSize, noSort, noLink, wrongPut, spent, spentAtPut, written}
 use Rattle.rules.specs.Figures.{Figures, figuresOf, closing, oneFigure}
 use Rattle.rules.specs.After.{stores}
 use Rattle.rules.specs.Reply.{replyOf, reply, after, answer}
 use Rattle.rules.specs.Lists.{replies, afterAll, AllPassable}
 use Rattle.rules.specs.Needs.{needs, Allowed}
 use Rattle.rules.specs.Alike.{Alike, AlikeTables}
+use Rattle.rules.proofs.Chains.{first-applies}
 use Rattle.rules.proofs.Judged.{allowed, lay-number, sound-number, unsound-number}
 use Rattle.rules.proofs.States.{next}
 use Rattle.rules.proofs.Demand1.{refusal-changes-nothing}
@@ -101,9 +104,9 @@ module _ (v w : State) (a : Alike v w) (listed : v .isSound ≡ true → v .roun
     commit-number-same : numberOf v commit ≡ numberOf w commit
     commit-number-same = sound-number v commit refl s ∙ ap first commit-same ∙ sym (sound-number w commit refl (sym (a .isSound) ∙ s))
 
-  -- ---- call by call: the same tests; where the call is allowed, the same figures, and states after it that are alike
+  -- ---- call by call: the same number by its tests; where the call is allowed, the same figures, and states after it that are alike
   pub record AlikeLaw (c : Call) : Type 0 where
-    pub tested : (isLay c ≡ true) ⊎ (v .isSound ≡ true) → tests v c ≡ tests w c
+    pub tested : (isLay c ≡ true) ⊎ (v .isSound ≡ true) → first (tests v c) ≡ first (tests w c)
     pub figures : Allowed v c → figuresOf v c ≡ figuresOf w c
     pub states : Allowed v c → SameContents (next v c) (next w c)
 
@@ -112,49 +115,60 @@ module _ (v w : State) (a : Alike v w) (listed : v .isSound ≡ true → v .roun
   not-lay f (inl e) = clash e refl
   not-lay f (inr s) = f s
 
+  -- the plan of an item that there is
+  module _ (i : ℕ) (l : i < v .m) where
+    there : (s : ℕ) → s < v .n → v .copies i s ≡ w .copies i s
+    there s h = same .copies i s (rw (same .m) at l) (rw (same .n) at h)
+
+    polls-alike : plannedPolls v i ≡ plannedPolls w i
+    polls-alike = polls-same (v .copies i) (w .copies i) (onBus v) (v .n) there ∙ rw (same .n, same .off)
+
+    puts-alike : plannedPuts v i ≡ plannedPuts w i
+    puts-alike = puts-same (v .copies i) (w .copies i) (onBus v) (v .n) there ∙ rw (same .n, same .off)
+
   pub alike-law : (c : Call) → AlikeLaw c
   unfolding tests figuresOf needs
   alike-law (lay n m value config) =
       record {
-        tested = λ _ i. (noSize n m, 2) ∷ (not (a .fits n m i), 1) ∷ (not (valid n config), 3) ∷ [];
+        tested = λ _ i. first ((noSize n m, 2) ∷ (not (a .fits n m i), 1) ∷ (not (valid n config), 3) ∷ []);
         figures = λ _. refl;
         states = λ _. record { n = refl; m = refl; off = refl; round = refl; copies = λ i s p q. refl };
       }
   alike-law (openRead i) =
       record {
-        tested = λ _ j. (not (ltb i (same .m j)), 2) ∷ (not (idle (same .round j .kind)), 4) ∷ [];
+        tested = λ _ j. first ((not (ltb i (same .m j)), 2) ∷ (not (idle (same .round j .kind)), 4) ∷ []);
         figures = λ _. refl;
         states = λ _. record { n = same .n; m = same .m; off = same .off; round = refl; copies = same .copies };
       }
   alike-law (openWrite i value) =
       record {
-        tested = λ _ j. (not (ltb i (same .m j)), 2) ∷ (not (idle (same .round j .kind)), 4) ∷ [];
+        tested = λ _ j. first ((not (ltb i (same .m j)), 2) ∷ (not (idle (same .round j .kind)), 4) ∷ []);
         figures = λ _. refl;
         states = λ _. record { n = same .n; m = same .m; off = same .off; round = refl; copies = same .copies };
       }
   alike-law (openChange i target) =
       record {
-        tested = λ _ j. (not (ltb i (same .m j)), 2) ∷ (not (valid (same .n j) target), 3) ∷ (not (idle (same .round j .kind)), 4) ∷ [];
+        tested = λ _ j. first ((not (ltb i (same .m j)), 2) ∷ (not (valid (same .n j) target), 3) ∷ (not (idle (same .round j .kind)), 4) ∷ []);
         figures = λ _. refl;
         states = λ _. record { n = same .n; m = same .m; off = same .off; round = refl; copies = same .copies };
       }
   alike-law (poll s) =
       record {
-        tested = λ _ j. (not (ltb s (same .n j)), 2) ∷ (idle (same .round j .kind), 5) ∷ (member (same .off j) s, 6)
-            ∷ (not (eqb (same .round j .dataPuts) 0 && eqb (same .round j .configPuts) 0), 7) ∷ [];
+        tested = λ _ j. first ((not (ltb s (same .n j)), 2) ∷ (idle (same .round j .kind), 5) ∷ (member (same .off j) s, 6)
+            ∷ (not (eqb (same .round j .dataPuts) 0 && eqb (same .round j .configPuts) 0), 7) ∷ []);
         figures = λ h j. oneFigure (placeFigure (polled-same (h .0) s j));
         states = λ _. record { n = same .n; m = same .m; off = same .off; round = ap (λ r. withPoll r s) (same .round); copies = same .copies };
       }
   alike-law (put s sort) =
       record {
-        tested = not-lay (λ e j. (not (ltb s (same .n j)) || noSort sort, 2) ∷ (idle (same .round j .kind), 5) ∷ (member (same .off j) s, 6)
-            ∷ (not (heard-same e j), 8) ∷ (wrongPut (same .round j .kind) sort, 9) ∷ (of-kind e _ _ (λ k. spent-put-same e k sort) j, 10) ∷ []);
+        tested = not-lay (λ e j. first ((not (ltb s (same .n j)) || noSort sort, 2) ∷ (idle (same .round j .kind), 5) ∷ (member (same .off j) s, 6)
+            ∷ (not (heard-same e j), 8) ∷ (wrongPut (same .round j .kind) sort, 9) ∷ (of-kind e _ _ (λ k. spent-put-same e k sort) j, 10) ∷ []));
         figures = λ _. refl;
         states = λ _. record { n = same .n; m = same .m; off = same .off; round = ap (λ r. withPut r s (isData sort)) (same .round); copies = same .copies };
       }
   alike-law commit =
       record {
-        tested = not-lay commit-same;
+        tested = not-lay (λ e. ap first (commit-same e));
         figures = λ h. of-kind (h .0) _ _ (closing-same (h .0));
         states = λ h. record {
           n = same .n;
@@ -168,13 +182,13 @@ module _ (v w : State) (a : Alike v w) (listed : v .isSound ≡ true → v .roun
       }
   alike-law abandon =
       record {
-        tested = λ _ j. (idle (same .round j .kind), 5) ∷ [];
+        tested = λ _ j. first ((idle (same .round j .kind), 5) ∷ []);
         figures = λ _. refl;
         states = λ _. record { n = same .n; m = same .m; off = same .off; round = refl; copies = same .copies };
       }
   alike-law (link s state) =
       record {
-        tested = λ _ j. (not (ltb s (same .n j)) || noLink state, 2) ∷ [];
+        tested = λ _ j. first ((not (ltb s (same .n j)) || noLink state, 2) ∷ []);
         figures = λ _. refl;
         states = λ _. record {
           n = same .n;
@@ -186,20 +200,27 @@ module _ (v w : State) (a : Alike v w) (listed : v .isSound ≡ true → v .roun
       }
   alike-law (reach i) =
       record {
-        tested = λ _ j. (not (ltb i (same .m j)), 2) ∷ [];
-        figures = λ h. let e : (s : ℕ) → s < v .n → v .copies i s ≡ w .copies i s = λ s l. same .copies i s (rw (same .m) at (h .1 .0)) (rw (same .n) at l) in
+        tested = λ _ j. first ((not (ltb i (same .m j)), 2) ∷ []);
+        figures = λ h. let e = there i (h .1 .0) in
             let on = onBus v in
             rw (hears-same (v .copies i) (w .copies i) on (v .n) e, by-generation-same (v .copies i) (w .copies i) on (v .n) e) (rw (same .n, same .off) refl);
         states = λ _. record { n = same .n; m = same .m; off = same .off; round = same .round; copies = same .copies };
       }
   alike-law diagnose =
       record {
-        tested = λ _ j. (idle (same .round j .kind), 5) ∷ [];
+        tested = λ _ j. first ((idle (same .round j .kind), 5) ∷ []);
         figures = λ h j. record {
           first = commit-number-same (h .0) j;
           second = stationFigure (station-same (h .0) j);
           third = placeFigure (read-place-same (h .0) j);
         };
+        states = λ _. record { n = same .n; m = same .m; off = same .off; round = same .round; copies = same .copies };
+      }
+  alike-law (plan i) =
+      record {
+        tested = λ _. either (ltb i (v .m)) (λ h j. first ((not (ltb i (same .m j)), 2) ∷ (not (isPlace (polls-alike i (ltb-true i _ h) j)), 15) ∷ []))
+            (λ h. first-applies (noItem v i, 2) _ (ap not h) ∙ sym (first-applies (noItem w i, 2) _ (ap not (ap (ltb i) (sym (same .m)) ∙ h))));
+        figures = λ h j. record { first = placeFigure (polls-alike i (h .1 .0) j); second = placeFigure (puts-alike i (h .1 .0) j); third = 0 };
         states = λ _. record { n = same .n; m = same .m; off = same .off; round = same .round; copies = same .copies };
       }
 
@@ -208,9 +229,9 @@ module _ (v w : State) (a : Alike v w) (listed : v .isSound ≡ true → v .roun
   number-same c = go (isLay c) refl (v .isSound) refl
     where
       go : (lay? : Bool) → isLay c ≡ lay? → (sound? : Bool) → v .isSound ≡ sound? → numberOf v c ≡ numberOf w c
-      go true l s e = lay-number v c l ∙ ap first (alike-law c .tested (inl l)) ∙ sym (lay-number w c l)
+      go true l s e = lay-number v c l ∙ alike-law c .tested (inl l) ∙ sym (lay-number w c l)
       go false l true e =
-          sound-number v c l e ∙ ap first (alike-law c .tested (inr e)) ∙ sym (sound-number w c l (sym (a .isSound) ∙ e))
+          sound-number v c l e ∙ alike-law c .tested (inr e) ∙ sym (sound-number w c l (sym (a .isSound) ∙ e))
       go false l false e = unsound-number v c l e ∙ sym (unsound-number w c l (sym (a .isSound) ∙ e))
 
   pub same-reply : (c : Call) → replyOf v c ≡ replyOf w c

@@ -28,21 +28,12 @@ use Rattle.rules.specs.Alike.{Alike}
 use Rattle.rules.specs.ReachExact.{polls, puts, AllDone, lastFigure}
 use Rattle.rules.proofs.Judged.{is-done, a-round, at-station, sound-number}
 use Rattle.rules.proofs.Demand1.{refusal-changes-nothing}
-use Rattle.rules.proofs.Steps.{on-members}
+use Rattle.rules.proofs.Steps.{on-bus}
 use Rattle.rules.proofs.Laws.{next-view, length-kept, bytes-kept}
 use Rattle.rules.proofs.Kept.{after-sound}
 use Rattle.rules.proofs.Alike.{alike-tables}
 
--- ---- stations on the bus
--- a station is on the bus if it is one of the n, and not off
-pub on-bus : (v : State) → v .n ≤ 16 → (s : ℕ) → (member (onBus v) s ≡ true) ↔ ((s < v .n) × (member (v .off) s ≡ false))
-on-bus v few s =
-    rw (on-members v few s) (
-      λ e. (ltb-true s (v .n) (and-left (ltb s (v .n)) (not (member (v .off) s)) e), not-true (member (v .off) s) (and-right (ltb s (v .n)) _ e)),
-      λ h. and-both (ltb s (v .n)) _ (lt-ltb s (v .n) (h .0)) (ap not (h .1)),
-    )
-
--- these stations are on it
+-- ---- stations on the bus: these stations are on it
 abbrev pub ThoseOn : State → List ℕ → Type 0
 ThoseOn v order = (s : ℕ) → among order s ≡ true → member (onBus v) s ≡ true
 

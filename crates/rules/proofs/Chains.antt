@@ -16,10 +16,10 @@ Decides [] (y ∷ needs) = ⊥
 Decides (x ∷ l) [] = ⊥
 Decides (x ∷ l) (y ∷ needs) = (x .1 ≡ y .0) × ((x .0 ≡ false) ↔ y .1) × (y .1 → Decides l needs)
 
--- every number is one of document 01's, and none is 0
-abbrev pub Listed : List ℕ → Type 0
-Listed [] = Unit {0}
-Listed (k ∷ rest) = (1 ≤ k) × (k ≤ 11) × Listed rest
+-- every number has P, and none is 0
+abbrev pub Listed : (ℕ → Type 0) → List ℕ → Type 0
+Listed P [] = Unit {0}
+Listed P (k ∷ rest) = (1 ≤ k) × P k × Listed P rest
 
 -- ---- the number of a chain
 -- a test that fails gives no number, one that applies gives its own
@@ -54,18 +54,18 @@ pub exactly : (l : Chain) (needs : Needs) → Decides l needs → (k : ℕ) → 
 exactly l needs d k = (λ e. rw e at (gets l needs d), λ g. one-number needs (first l) k (gets l needs d) g)
 
 -- ---- 0, and the other numbers
-pub gets-zero : (needs : Needs) → Listed (numbers needs) → Gets needs 0 ↔ Hold needs
-gets-zero [] s = (λ e. tt, λ h. refl)
-gets-zero (y ∷ needs) s = let rest = gets-zero needs (s .2) in (go (rest .0), λ h. inr (h .0, rest .1 (h .1)))
+pub gets-zero : (P : ℕ → Type 0) (needs : Needs) → Listed P (numbers needs) → Gets needs 0 ↔ Hold needs
+gets-zero P [] s = (λ e. tt, λ h. refl)
+gets-zero P (y ∷ needs) s = let rest = gets-zero P needs (s .2) in (go (rest .0), λ h. inr (h .0, rest .1 (h .1)))
   where
     go : (Gets needs 0 → Hold needs) → Gets (y ∷ needs) 0 → Hold (y ∷ needs)
     go f (inl p) = let e = p .1 in let l = s .0 in absurd (omega arith)
     go f (inr p) = (p .0, f (p .1))
 
-pub gets-listed : (needs : Needs) → Listed (numbers needs) → (k : ℕ) → Gets needs k → k ≤ 11
-gets-listed [] s k e = omega arith
-gets-listed (y ∷ needs) s k (inl p) = let e = p .1 in let l = s .1 in omega arith
-gets-listed (y ∷ needs) s k (inr p) = gets-listed needs (s .2) k (p .1)
+pub gets-listed : (P : ℕ → Type 0) → P 0 → (needs : Needs) → Listed P (numbers needs) → (k : ℕ) → Gets needs k → P k
+gets-listed P none [] s k e = rw e none
+gets-listed P none (y ∷ needs) s k (inl p) = rw (p .1) (s .1)
+gets-listed P none (y ∷ needs) s k (inr p) = gets-listed P none needs (s .2) k (p .1)
 
 -- a number that is not 0 is that of a need that fails
 pub gets-fails : (needs : Needs) (k : ℕ) → (k ≡ 0 → ⊥) → Gets needs k → Fails needs k

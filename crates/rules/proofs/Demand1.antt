@@ -3,7 +3,8 @@ use mathlib.Core.Path.{_≡_, refl}
 use mathlib.Core.Bool.{Bool, true, false, cond}
 use mathlib.Core.List.{List}
 use mathlib.Core.Logic.{_⊎_, inl, inr}
-use Prim.Native.Nat.{ℕ, _≤_}
+use Prim.Native.Nat.{ℕ}
+use native.Mathlib.Omega.{arith}
 use lib.Dec.{eqb}
 use borrow.Author.Tests.{ne-eqb}
 use Rattle.layout.specs.View.{State, view}
@@ -12,7 +13,7 @@ use Rattle.rules.specs.Rules.{numberOf}
 use Rattle.rules.specs.Figures.{Figures, figuresOf, noFigures}
 use Rattle.rules.specs.Reply.{replyOf, reply, after, answer}
 use Rattle.rules.specs.Needs.{needs}
-use Rattle.rules.specs.Demand1.{ZeroFigures, HasFigures}
+use Rattle.rules.specs.Demand1.{ZeroFigures, HasFigures, NumberOf}
 use Rattle.rules.specs.declared.Reply.{Reply}
 use Rattle.rules.proofs.Chains.{gets-listed}
 use Rattle.rules.proofs.Judged.{judged, number-gets}
@@ -53,7 +54,7 @@ pub other-calls-have-no-figures : (t : List ℕ) (c : Call) → (HasFigures c �
 unfolding replyOf
 other-calls-have-no-figures t c h = rw (without-figures (view t) c h) (no-figures (numberOf (view t) c))
 
-pub number-is-listed : (t : List ℕ) (c : Call) → reply t c .number ≤ 11
+pub number-is-listed : (t : List ℕ) (c : Call) → NumberOf c (reply t c .number)
 unfolding replyOf
 number-is-listed t c =
-    let v = view t in gets-listed (needs v c) (judged v c .listed) (numberOf v c) (number-gets v c (numberOf v c) .0 refl)
+    let v = view t in gets-listed (NumberOf c) (inl (omega arith)) (needs v c) (judged v c .listed) (numberOf v c) (number-gets v c (numberOf v c) .0 refl)

@@ -1,7 +1,7 @@
 -- The demands hold of the definitions, and what else is stated of them: each theorem is of the statement in the file of specs/ that
 -- bears its name.
 use mathlib.Core.Path.{refl}
-use Rattle.rules.specs.Calls.{reach}
+use Rattle.rules.specs.Calls.{reach, plan}
 use Rattle.rules.specs.After.{done}
 use Rattle.rules.specs.Demand1.{Demand1}
 use Rattle.rules.specs.Steps.{Steps}
@@ -39,4 +39,5 @@ steps =
       step = λ t c b p e. done-step t c e b p;
       reach-changes-nothing = λ t i. settled t (reach i) refl;
       diagnose-changes-nothing = diagnose-nothing;
+      plan-changes-nothing = λ t i. settled t (plan i) refl;
     }

@@ -8,21 +8,24 @@ use native.Mathlib.Omega.{arith}
 use lib.Dec.{ltb, eqb}
 use borrow.Author.Tests.{ltb-true, lt-ltb, eqb-true, eq-eqb, ne-eqb, not-false}
 use Rattle.basics.proofs.Tests.{clash, and-left, and-right, and-both, or-left, or-right, or-cases, or-false-left, or-false-right}
+use Rattle.quorum.specs.Configurations.{isPlace}
 use Rattle.quorum.proofs.Promise.{promise}
 use Rattle.layout.specs.Layout.{listed}
 use Rattle.layout.proofs.Sizes.{sized}
 use Rattle.layout.specs.Fields.{Kind, none, read, write, change}
-use Rattle.layout.specs.View.{State, view}
-use Rattle.rules.specs.Calls.{Call, lay, openRead, openWrite, openChange, poll, put, commit, abandon, link, reach, diagnose}
+use Rattle.layout.specs.View.{State, view, onBus}
+use Rattle.plan.specs.Plan.{startOn, plannedPolls}
+use Rattle.plan.proofs.Plan.{in-hearing}
+use Rattle.rules.specs.Calls.{Call, lay, openRead, openWrite, openChange, poll, put, commit, abandon, link, reach, diagnose, plan}
 use Rattle.rules.specs.Calls.{isLay, isData, isConfigSort}
 use Rattle.rules.specs.Rules.{first, tests, refusals, numberOf, idle, wrongPut, spentAtPut}
 use Rattle.rules.specs.Figures.{figuresOf, noFigures}
 use Rattle.rules.specs.Reply.{replyOf}
-use Rattle.rules.specs.Demand1.{HasFigures, of-poll, of-commit, of-reach, of-diagnose}
+use Rattle.rules.specs.Demand1.{HasFigures, of-poll, of-commit, of-reach, of-diagnose, of-plan, NumberOf}
 use Rattle.rules.specs.Demand2.{Found}
-use Rattle.rules.specs.Needs.{Gets, numbers, Rise, RightPut, SpentAtPut, needs, Allowed, Numbers}
+use Rattle.rules.specs.Needs.{Gets, numbers, Rise, RightPut, SpentAtPut, InHearing, needs, Allowed, Numbers}
 use Rattle.rules.proofs.Chains.{Decides, Listed, first-fails, first-applies, exactly, gets-zero, gets-fails, gets-lowest}
-use Rattle.rules.proofs.Quorums.{passes, negated, both, is-spent, is-written, heard-exactly, of-every, of-none, version-found, generation-found}
+use Rattle.rules.proofs.Quorums.{passes, negated, both, is-spent, is-written, heard-by, heard-exactly, of-every, of-none, version-found, generation-found}
 
 -- a lay
 pub data IsLay : Call → Type 0 where
@@ -81,7 +84,7 @@ module _ (v : State) where
 
   pub record Judged (c : Call) : Type 0 where
     pub decided : Decides (refusals v c) (needs v c)
-    pub listed : Listed (numbers (needs v c))
+    pub listed : Listed (NumberOf c) (numbers (needs v c))
     pub rising : isLay c ≡ false → Rise 0 (numbers (needs v c))
     pub figures : HasFigures c ⊎ (figuresOf v c ≡ noFigures)
     pub lay? : IsLay c ⊎ (isLay c ≡ false)
@@ -92,12 +95,19 @@ module _ (v : State) where
   abbrev kind : Kind
   kind = v .round .kind
 
+  -- some start of the stations on the bus is heard
+  heard-start : (i : ℕ) → (isPlace (plannedPolls v i) ≡ true) ↔ InHearing v i
+  heard-start i = (
+    λ e. let h = in-hearing (v .copies i) (onBus v) (v .n) .0 e in let x = heard-by v i (startOn v (h .0)) .0 (h .1) in (h .0, x .0, x .1),
+    λ h. in-hearing (v .copies i) (onBus v) (v .n) .1 (h .0, heard-by v i (startOn v (h .0)) .1 (h .1, h .2)),
+  )
+
   pub judged : (c : Call) → Judged c
   unfolding refusals tests needs figuresOf
   judged (lay n m value config) =
       record {
         decided = (refl, passes (listed n m) (sized n m), λ _. (refl, passes _ same, λ _. (refl, passes _ (promise .valid-exactly n config), λ _. tt)));
-        listed = (omega arith, omega arith, (omega arith, omega arith, (omega arith, omega arith, tt)));
+        listed = (omega arith, inl (omega arith), (omega arith, inl (omega arith), (omega arith, inl (omega arith), tt)));
         rising = λ l. clash refl l;
         figures = inr refl;
         lay? = inl of-lay;
@@ -105,7 +115,7 @@ module _ (v : State) where
   judged (openRead i) =
       record {
         decided = (refl, isSound, λ _. (refl, below i (v .m), λ _. (refl, no-round kind, λ _. tt)));
-        listed = (omega arith, omega arith, (omega arith, omega arith, (omega arith, omega arith, tt)));
+        listed = (omega arith, inl (omega arith), (omega arith, inl (omega arith), (omega arith, inl (omega arith), tt)));
         rising = λ l. (omega arith, (omega arith, (omega arith, tt)));
         figures = inr refl;
         lay? = inr refl;
@@ -113,7 +123,7 @@ module _ (v : State) where
   judged (openWrite i value) =
       record {
         decided = (refl, isSound, λ _. (refl, below i (v .m), λ _. (refl, no-round kind, λ _. tt)));
-        listed = (omega arith, omega arith, (omega arith, omega arith, (omega arith, omega arith, tt)));
+        listed = (omega arith, inl (omega arith), (omega arith, inl (omega arith), (omega arith, inl (omega arith), tt)));
         rising = λ l. (omega arith, (omega arith, (omega arith, tt)));
         figures = inr refl;
         lay? = inr refl;
@@ -125,7 +135,7 @@ module _ (v : State) where
           isSound,
           λ _. (refl, below i (v .m), λ _. (refl, passes _ (promise .valid-exactly (v .n) target), λ _. (refl, no-round kind, λ _. tt))),
         );
-        listed = (omega arith, omega arith, (omega arith, omega arith, (omega arith, omega arith, (omega arith, omega arith, tt))));
+        listed = (omega arith, inl (omega arith), (omega arith, inl (omega arith), (omega arith, inl (omega arith), (omega arith, inl (omega arith), tt))));
         rising = λ l. (omega arith, (omega arith, (omega arith, (omega arith, tt))));
         figures = inr refl;
         lay? = inr refl;
@@ -137,7 +147,7 @@ module _ (v : State) where
           isSound,
           λ _. (refl, below s (v .n), λ _. (refl, a-round kind, λ _. (refl, same, λ _. (refl, empty (v .round .dataPuts) (v .round .configPuts), λ _. tt)))),
         );
-        listed = (omega arith, omega arith, (omega arith, omega arith, (omega arith, omega arith, (omega arith, omega arith, (omega arith, omega arith, tt)))));
+        listed = (omega arith, inl (omega arith), (omega arith, inl (omega arith), (omega arith, inl (omega arith), (omega arith, inl (omega arith), (omega arith, inl (omega arith), tt)))));
         rising = λ l. (omega arith, (omega arith, (omega arith, (omega arith, (omega arith, tt)))));
         figures = inl of-poll;
         lay? = inr refl;
@@ -168,20 +178,20 @@ module _ (v : State) where
         );
         listed = (
           omega arith,
-          omega arith,
+          inl (omega arith),
           (
             omega arith,
-            omega arith,
+            inl (omega arith),
             (
               omega arith,
-              omega arith,
+              inl (omega arith),
               (
                 omega arith,
-                omega arith,
+                inl (omega arith),
                 (
                   omega arith,
-                  omega arith,
-                  (omega arith, omega arith, (omega arith, omega arith, tt)),
+                  inl (omega arith),
+                  (omega arith, inl (omega arith), (omega arith, inl (omega arith), tt)),
                 ),
               ),
             ),
@@ -211,7 +221,7 @@ module _ (v : State) where
             ),
           ),
         );
-        listed = (omega arith, omega arith, (omega arith, omega arith, (omega arith, omega arith, (omega arith, omega arith, (omega arith, omega arith, tt)))));
+        listed = (omega arith, inl (omega arith), (omega arith, inl (omega arith), (omega arith, inl (omega arith), (omega arith, inl (omega arith), (omega arith, inl (omega arith), tt)))));
         rising = λ l. (omega arith, (omega arith, (omega arith, (omega arith, (omega arith, tt)))));
         figures = inl of-commit;
         lay? = inr refl;
@@ -219,7 +229,7 @@ module _ (v : State) where
   judged abandon =
       record {
         decided = (refl, isSound, λ _. (refl, a-round kind, λ _. tt));
-        listed = (omega arith, omega arith, (omega arith, omega arith, tt));
+        listed = (omega arith, inl (omega arith), (omega arith, inl (omega arith), tt));
         rising = λ l. (omega arith, (omega arith, tt));
         figures = inr refl;
         lay? = inr refl;
@@ -227,7 +237,7 @@ module _ (v : State) where
   judged (link s state) =
       record {
         decided = (refl, isSound, λ _. (refl, at-station (v .n) s state 0 1, λ _. tt));
-        listed = (omega arith, omega arith, (omega arith, omega arith, tt));
+        listed = (omega arith, inl (omega arith), (omega arith, inl (omega arith), tt));
         rising = λ l. (omega arith, (omega arith, tt));
         figures = inr refl;
         lay? = inr refl;
@@ -235,7 +245,7 @@ module _ (v : State) where
   judged (reach i) =
       record {
         decided = (refl, isSound, λ _. (refl, below i (v .m), λ _. tt));
-        listed = (omega arith, omega arith, (omega arith, omega arith, tt));
+        listed = (omega arith, inl (omega arith), (omega arith, inl (omega arith), tt));
         rising = λ l. (omega arith, (omega arith, tt));
         figures = inl of-reach;
         lay? = inr refl;
@@ -243,9 +253,17 @@ module _ (v : State) where
   judged diagnose =
       record {
         decided = (refl, isSound, λ _. (refl, a-round kind, λ _. tt));
-        listed = (omega arith, omega arith, (omega arith, omega arith, tt));
+        listed = (omega arith, inl (omega arith), (omega arith, inl (omega arith), tt));
         rising = λ l. (omega arith, (omega arith, tt));
         figures = inl of-diagnose;
+        lay? = inr refl;
+      }
+  judged (plan i) =
+      record {
+        decided = (refl, isSound, λ _. (refl, below i (v .m), λ _. (refl, passes _ (heard-start i), λ _. tt)));
+        listed = (omega arith, inl (omega arith), (omega arith, inl (omega arith), (omega arith, inr (i, refl, refl), tt)));
+        rising = λ l. (omega arith, (omega arith, (omega arith, tt)));
+        figures = inl of-plan;
         lay? = inr refl;
       }
 
@@ -255,10 +273,10 @@ module _ (v : State) where
   number-gets c k = exactly (refusals v c) (needs v c) (judged c .decided) k
 
   pub allowed : (c : Call) → numberOf v c ≡ 0 → Allowed v c
-  allowed c e = gets-zero (needs v c) (judged c .listed) .0 (number-gets c 0 .0 e)
+  allowed c e = gets-zero (NumberOf c) (needs v c) (judged c .listed) .0 (number-gets c 0 .0 e)
 
   pub is-done : (c : Call) → Allowed v c → numberOf v c ≡ 0
-  is-done c a = number-gets c 0 .1 (gets-zero (needs v c) (judged c .listed) .1 a)
+  is-done c a = number-gets c 0 .1 (gets-zero (NumberOf c) (needs v c) (judged c .listed) .1 a)
 
 -- ---- soundness is asked once: of a lay never, of any other call first
 module _ (v : State) (c : Call) where

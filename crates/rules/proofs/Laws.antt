@@ -22,7 +22,7 @@ use Rattle.layout.proofs.Fields.{off-only, polled-only, puts-only, round-only, 
 use Rattle.layout.proofs.Soundness.{StateSound, sound-facts, is-sound, sound-head}
 use Rattle.layout.proofs.Held.{withOff, withCopies, Holds, holds-own, holds-off, holds-polled, holds-puts}
 use Rattle.layout.proofs.Stored.{Small, put-length, laid-length, committed, holds-copies, holds-laid}
-use Rattle.rules.specs.Calls.{Call, lay, openRead, openWrite, openChange, poll, put, commit, abandon, link, reach, diagnose, isOff}
+use Rattle.rules.specs.Calls.{Call, lay, openRead, openWrite, openChange, poll, put, commit, abandon, link, reach, diagnose, plan, isOff}
 use Rattle.rules.specs.Passed.{Passable}
 use Rattle.rules.specs.Rules.{numberOf, spent, written}
 use Rattle.rules.specs.Figures.{figuresOf, closing}
@@ -39,7 +39,7 @@ use Rattle.rules.proofs.States.{next, renewed, polled-sound, put-sound,
 use Rattle.rules.proofs.Views.{closing-fits, opens, opens-plain, two-bytes}
 use Rattle.rules.proofs.Book.{Follows, keep-laid, keep-commit}
 use Rattle.rules.proofs.Demand1.{Shows, reply-figures}
-use Rattle.rules.proofs.Steps.{opened-step, polled-step, put-step, link-step, commit-step, reach-step, diagnose-step, laid-step}
+use Rattle.rules.proofs.Steps.{opened-step, polled-step, put-step, link-step, commit-step, reach-step, diagnose-step, plan-step, laid-step}
 
 pub record Law (t : Table) (c : Call) : Type 0 where
   -- the state after it is sound
@@ -211,6 +211,14 @@ module _ (t : Table) where
         isSound = is-sound t (a .0);
         held = λ b p. holds-own t b (a .0);
         does = λ w r l q. diagnose-step v (is-sound t (a .0)) (a .0) (a .1 .0) r q;
+        follows = λ b k. k;
+        size = refl;
+      }
+  law (plan i) a =
+      record {
+        isSound = is-sound t (a .0);
+        held = λ b p. holds-own t b (a .0);
+        does = λ w r l q. plan-step v i (is-sound t (a .0)) (a .1 .1 .0) r q;
         follows = λ b k. k;
         size = refl;
       }

@@ -16,7 +16,7 @@ use Rattle.layout.specs.Newest.{hears}
 use Rattle.layout.specs.View.{Table, State, view, own, SameContents}
 use Rattle.layout.proofs.Soundness.{StateSound, is-sound}
 use Rattle.layout.proofs.Newer.{hears-same, hears-alike}
-use Rattle.rules.specs.Calls.{Call, lay, openRead, openWrite, openChange, poll, put, commit, abandon, link, reach, diagnose, isLay}
+use Rattle.rules.specs.Calls.{Call, lay, openRead, openWrite, openChange, poll, put, commit, abandon, link, reach, diagnose, plan, isLay}
 use Rattle.rules.specs.Reply.{reply, after}
 use Rattle.rules.specs.Lists.{AllPassable}
 use Rattle.rules.specs.ReachExact.{NoneFinishes}
@@ -69,6 +69,7 @@ module _ (i these : ℕ) where
     deaf-kept (link s state) o = h
     deaf-kept (reach j) o = h
     deaf-kept diagnose o = h
+    deaf-kept (plan j) o = h
 
   -- ---- a list of calls
   pub none-finishes : (calls : List Call) (u : Table) → AreBytes u → view u .isSound ≡ true → Deaf (view u) → AllPassable calls → NoneFinishes i these u calls

@@ -19,7 +19,7 @@ use Rattle.layout.specs.Updates.{setOff, laid}
 use Rattle.layout.proofs.Fields.{off-only, off-round, off-bytes}
 use Rattle.layout.proofs.Again.{off-over, own-off, own-puts}
 use Rattle.layout.proofs.Soundness.{is-sound, sound-head}
-use Rattle.rules.specs.Calls.{Call, lay, openRead, openWrite, openChange, poll, put, commit, abandon, link, reach, diagnose}
+use Rattle.rules.specs.Calls.{Call, lay, openRead, openWrite, openChange, poll, put, commit, abandon, link, reach, diagnose, plan}
 use Rattle.rules.specs.Calls.{dataSort, configSort, onState}
 use Rattle.rules.specs.Passed.{Passable}
 use Rattle.rules.specs.Rules.{first, tests, readingOver, wrongPut, spentAtPut}
@@ -84,6 +84,7 @@ module _ (t : Table) where
   moves on h (link k state) a = link-moves on h k state a
   moves on h (reach i) a = h
   moves on h diagnose a = h
+  moves on h (plan i) a = h
 
 -- the table after a call that is done has the off set of the state after it
 seen : (t : Table) (c : Call) → reply t c .number ≡ 0 → AreBytes t → Passable c → (on : ℕ → Bool) → OffBut (next (view t) c) on → OffBut (view (after t c)) on

@@ -12,7 +12,7 @@ use Rattle.basics.proofs.Tests.{clash, and-left, and-right, and-both, or-left, 
 use Rattle.quorum.specs.Sets.{member}
 use Rattle.quorum.specs.Orders.{among, joined}
 use Rattle.quorum.specs.Promise.{QuorumIn}
-use Rattle.quorum.specs.Configurations.{writeSet, placeFigure, holdsWrite}
+use Rattle.quorum.specs.Configurations.{writeSet, firstRead, placeFigure, holdsWrite}
 use Rattle.quorum.proofs.Promise.{promise}
 use Rattle.layout.specs.Fields.{Copy, Kind, none, read, write, change, Round}
 use Rattle.layout.specs.Newest.{IsNewest, byVersion, byGeneration, heardPlace, hears}
@@ -35,11 +35,11 @@ use Rattle.rules.specs.ReachExact.{AllOn, polls, puts, Opens, of-read, o
 use Rattle.rules.specs.ReachExact.{Readable, AllDone, lastFigure, PollsSay, Closes, SpentOn}
 use Rattle.rules.proofs.Judged.{numbered, a-round}
 use Rattle.rules.proofs.Demand1.{Shows, reply-figures}
-use Rattle.rules.proofs.Steps.{three}
-use Rattle.rules.proofs.Quorums.{no-place-figure, a-place-figure, place-shown}
+use Rattle.rules.proofs.Steps.{on-bus, three}
+use Rattle.rules.proofs.Quorums.{place-shown}
 use Rattle.rules.proofs.Laws.{done-allowed, next-view, length-kept, bytes-kept}
 use Rattle.rules.proofs.Kept.{after-sound}
-use Rattle.rules.proofs.Asking.{on-bus, all-data, all-config, Asking, same-reply, commit-number, all-polled, AllPut, all-put}
+use Rattle.rules.proofs.Asking.{all-data, all-config, Asking, same-reply, commit-number, all-polled, AllPut, all-put}
 
 -- ---- all stations on the bus join the empty set
 all-joined : (v : State) → v .n ≤ 16 → (order : List ℕ) → AllOn v order → joined 0 order ≡ onBus v
@@ -170,7 +170,7 @@ module _ (t : Table) (bytes : AreBytes t) (isSound : view t .isSound ≡ true) (
     unfolding hears
     polled order all =
         let p = all-polled v isSound few order (λ s m. sym (all s) ∙ m) (opened k i x target) u a item busy refl refl 0
-        (sym (no-place-figure (byGeneration (v .copies i) 0 (v .n) .config) 0 .1 (promise .none-read _))) in
+        (sym (promise .figure-none (firstRead (byGeneration (v .copies i) 0 (v .n) .config) 0) .1 (promise .none-read _))) in
         let e = all-joined v few order all in
         record { done = p .done; says = rw e at (p .says); asking = rw e at (p .asking) }
 
@@ -179,8 +179,8 @@ module _ (t : Table) (bytes : AreBytes t) (isSound : view t .isSound ≡ true) (
     polls-say order all =
         let p = polled order all in
         let config = byGeneration (v .copies i) on (v .n) .config in
-        let heard = via (a-place-figure config on) (reads-told (allHeard v i) (canWrite v i)) in
-        let unheard = via (no-place-figure config on) (zero-told (allHeard v i) (canWrite v i)) in
+        let heard = via (promise .figure-place (firstRead config on)) (reads-told (allHeard v i) (canWrite v i)) in
+        let unheard = via (promise .figure-none (firstRead config on)) (zero-told (allHeard v i) (canWrite v i)) in
         rw reach-figure (record { done = p .done; place = rw (p .says) (place-shown v i on); heard = rw (p .says) heard; unheard = rw (p .says) unheard })
 
     -- puts at them all

@@ -18,7 +18,7 @@ use Rattle.layout.specs.Updates.{noTarget}
 use Rattle.layout.proofs.Fields.{opened}
 use Rattle.layout.proofs.Held.{withRound}
 use Rattle.layout.proofs.Soundness.{StateSound, is-sound}
-use Rattle.rules.specs.Calls.{Call, lay, openRead, openWrite, openChange, poll, put, commit, abandon, link, reach, diagnose}
+use Rattle.rules.specs.Calls.{Call, lay, openRead, openWrite, openChange, poll, put, commit, abandon, link, reach, diagnose, plan}
 use Rattle.rules.specs.Reply.{reply, after}
 use Rattle.rules.specs.Lists.{AllPassable}
 use Rattle.rules.specs.Needs.{needs, Allowed}
@@ -29,7 +29,7 @@ use Rattle.rules.proofs.Demand2.{demand2}
 use Rattle.rules.proofs.States.{next}
 use Rattle.rules.proofs.Laws.{done-allowed, next-view, bytes-kept}
 use Rattle.rules.proofs.Kept.{stays-sound}
-use Rattle.rules.proofs.Asking.{on-bus}
+use Rattle.rules.proofs.Steps.{on-bus}
 use Rattle.rules.proofs.NoneFinishes.{Deaf, deaf-like, commit-deaf}
 
 module _ (i : ℕ) where
@@ -116,6 +116,7 @@ module _ (i : ℕ) where
     kept (link s state) a fewer = with-round (next w (link s state)) fewer refl refl refl (h .polled)
     kept (reach j) a fewer = h
     kept diagnose a fewer = h
+    kept (plan j) a fewer = h
 
   -- ---- a list of calls
   pub stays : (calls : List Call) (u : Table) → AreBytes u → view u .isSound ≡ true → Silent (view u) → AllPassable calls → StaysUnheard i u calls

@@ -27,24 +27,6 @@ passes b p = (λ e. p .0 (not-false b e), λ a. ap not (p .1 a))
 pub both : (a b : Bool) {A B : Type 0} → (a ≡ true) ↔ A → (b ≡ true) ↔ B → ((a && b) ≡ true) ↔ (A × B)
 both a b p q = (λ e. (p .0 (and-left a b e), q .0 (and-right a b e)), λ h. and-both a b (p .1 (h .0)) (q .1 (h .1)))
 
--- ---- the figure of the first read place: 0 exactly if no read set is held
-module _ (c : List ℕ) (set : ℕ) where
-  pub no-place-figure : (placeFigure (firstRead c set) ≡ 0) ↔ (holdsRead c set ≡ false)
-  no-place-figure = (
-    λ e. promise .no-place (firstRead c set) .1 (promise .figure-nowhere (firstRead c set) .0 e),
-    λ e. promise .figure-nowhere (firstRead c set) .1 (promise .no-place (firstRead c set) .0 e),
-  )
-
-  pub a-place-figure : (1 ≤ placeFigure (firstRead c set)) ↔ (holdsRead c set ≡ true)
-  a-place-figure = (
-    λ l. either (holdsRead c set) (λ e. e) (λ e. let z = no-place-figure .1 e in absurd (omega arith)),
-    λ e. go (placeFigure (firstRead c set)) refl e,
-  )
-    where
-      go : (x : ℕ) → placeFigure (firstRead c set) ≡ x → holdsRead c set ≡ true → 1 ≤ x
-      go zero z e = clash e (no-place-figure .0 z)
-      go (suc x) z e = omega arith
-
 module _ (v : State) where
   -- a round that is heard has found something
   pub found : heard v ≡ true → Found v
@@ -108,10 +90,10 @@ module _ (v : State) where
             λ h. promise .figure-at (firstRead config set) k .1
                 (rw (config, by-generation (v .copies i) set (v .n) (h .0) (h .1)) (promise .first-read (v .copies i (h .0) .config) set k .1 (h .2))),
           );
-          heard = (λ l. heard-by i set .0 (a-place-figure config set .0 l), λ h. a-place-figure config set .1 (heard-by i set .1 h));
+          heard = (λ l. heard-by i set .0 (promise .figure-place (firstRead config set) .0 l), λ h. promise .figure-place (firstRead config set) .1 (heard-by i set .1 h));
           unheard = (
-            λ e g h. clash (heard-by i set .1 (g, h)) (no-place-figure config set .0 e),
-            λ n. no-place-figure config set .1 (fails _ (λ e. let h = heard-by i set .0 e in n (h .0) (h .1))),
+            λ e g h. clash (heard-by i set .1 (g, h)) (promise .figure-none (firstRead config set) .0 e),
+            λ n. promise .figure-none (firstRead config set) .1 (fails _ (λ e. let h = heard-by i set .0 e in n (h .0) (h .1))),
           );
         }
 

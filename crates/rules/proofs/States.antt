@@ -18,7 +18,7 @@ use Rattle.layout.specs.Rounds.{withPolled, withPuts, withPoll, withPut, withLi
 use Rattle.layout.proofs.Fields.{opened}
 use Rattle.layout.proofs.Soundness.{RoundFacts, StateSound}
 use Rattle.layout.proofs.Held.{withOff, withRound, withCopies}
-use Rattle.rules.specs.Calls.{Call, lay, openRead, openWrite, openChange, poll, put, commit, abandon, link, reach, diagnose, isData, isOff}
+use Rattle.rules.specs.Calls.{Call, lay, openRead, openWrite, openChange, poll, put, commit, abandon, link, reach, diagnose, plan, isData, isOff}
 use Rattle.rules.specs.Figures.{closing}
 use Rattle.rules.specs.After.{stores}
 use Rattle.rules.specs.After.{linked as linkedOff}
@@ -37,6 +37,7 @@ next v abandon = withRound v (opened none 0 0 noTarget)
 next v (link s state) = withRound (withOff v (linkedOff v s (isOff state))) (withLink (v .round) s (isOff state))
 next v (reach i) = v
 next v diagnose = v
+next v (plan i) = v
 
 -- ---- sets that share no station
 apart : (a b : ℕ) → ((i : ℕ) → member a i ≡ true → member b i ≡ true → ⊥) → shares a b ≡ false

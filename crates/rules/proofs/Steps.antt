@@ -6,13 +6,13 @@ use mathlib.Core.Logic.{_↔_, _⊎_, inl, inr}
 use Prim.Native.Nat.{ℕ, _≤_, _<_}
 use native.Mathlib.Omega.{arith}
 use lib.Dec.{ltb}
-use borrow.Author.Tests.{eq-eqb, ne-eqb}
-use Rattle.basics.proofs.Tests.{clash}
+use borrow.Author.Tests.{eq-eqb, ne-eqb, lt-ltb, ltb-true, not-true}
+use Rattle.basics.proofs.Tests.{clash, fails, and-left, and-right, and-both}
 use Rattle.quorum.specs.Sets.{member, join, remove, full}
 use Rattle.quorum.specs.Promise.{QuorumIn}
 use Rattle.quorum.specs.Configurations.{writeSet, placeFigure, holdsWrite}
 use Rattle.quorum.proofs.Promise.{promise}
-use Rattle.layout.specs.Fields.{Kind, none, read, write, change, Round}
+use Rattle.layout.specs.Fields.{Copy, Kind, none, read, write, change, Round}
 use Rattle.layout.specs.Newest.{byGeneration, hears}
 use Rattle.layout.specs.Rounds.{withPolled, withPuts}
 use Rattle.layout.specs.View.{State, onBus, own, readPlace, SameContents}
@@ -22,12 +22,15 @@ use Rattle.layout.proofs.Soundness.{StateSound}
 use Rattle.layout.proofs.Held.{withOff, withRound}
 use Rattle.layout.proofs.Newer.{station-shown, none-shown, by-generation, place-same}
 use Rattle.layout.proofs.Stored.{stored}
-use Rattle.rules.specs.Calls.{lay, poll, put, commit, link, reach, diagnose}
+use Rattle.plan.specs.Plan.{startOn, plannedPolls}
+use Rattle.plan.proofs.Plan.{in-hearing, heard-then, unheard-before, written-from, unwritten}
+use Rattle.rules.specs.Calls.{lay, poll, put, commit, link, reach, diagnose, plan}
 use Rattle.rules.specs.Figures.{figuresOf, closing}
 use Rattle.rules.specs.After.{stores}
 use Rattle.rules.specs.Demand2.{Found, HeardBy}
+use Rattle.rules.specs.Needs.{InHearing}
 use Rattle.rules.specs.Steps.{Joined, Removed, SameCopies, SameOrder, Fresh, Laid, Opened}
-use Rattle.rules.specs.Steps.{OwnPlaceShown, Polled, Put, Linked, Closing, Committed, Reached, Diagnosed}
+use Rattle.rules.specs.Steps.{OwnPlaceShown, Polled, Put, Linked, Closing, Committed, Reached, Diagnosed, Planned}
 use Rattle.rules.specs.declared.Reply.{Reply}
 use Rattle.rules.proofs.Demand1.{Shows}
 use Rattle.rules.proofs.Quorums.{version-found, generation-found, place-shown, heard-by}
@@ -192,6 +195,14 @@ module _ (v w : State) (r : Reply) (l : SameContents w (next v commit)) (item : 
 pub on-members : (v : State) → v .n ≤ 16 → (s : ℕ) → member (onBus v) s ≡ (ltb s (v .n) && not (member (v .off) s))
 on-members v few s = promise .member-minus (full (v .n)) (v .off) s ∙ rw (promise .member-full (v .n) s few)
 
+-- a station is on the bus if it is one of the n, and not off
+pub on-bus : (v : State) → v .n ≤ 16 → (s : ℕ) → (member (onBus v) s ≡ true) ↔ ((s < v .n) × (member (v .off) s ≡ false))
+on-bus v few s =
+    rw (on-members v few s) (
+      λ e. (ltb-true s (v .n) (and-left (ltb s (v .n)) (not (member (v .off) s)) e), not-true (member (v .off) s) (and-right (ltb s (v .n)) _ e)),
+      λ h. and-both (ltb s (v .n)) _ (lt-ltb s (v .n) (h .0)) (ap not (h .1)),
+    )
+
 module _ (v : State) (i : ℕ) (f : StateSound v) where
   pub reach-step : (r : Reply) → Shows r (figuresOf v (reach i)) → Reached v i r
   unfolding figuresOf
@@ -219,6 +230,40 @@ diagnose-step v f sound busy r q =
       noStation = rw (q .1) (none-shown (λ k. own v k .version) (v .round .polled) (v .n) (f .polled));
       place = rw (q .2) (place-shown v (v .round .item) (v .round .polled));
     }
+
+-- ---- plan
+module _ (v : State) (i : ℕ) (f : StateSound v) (h : InHearing v i) where
+  abbrev copies : ℕ → Copy
+  copies = v .copies i
+
+  abbrev on : ℕ
+  on = onBus v
+
+  -- some start is heard, so that the first has a place
+  heard-first : 1 ≤ placeFigure (plannedPolls v i)
+  heard-first = promise .figure-place _ .1 (in-hearing copies on (v .n) .1 (h .0, heard-by v i (startOn v (h .0)) .1 (h .1, h .2)))
+
+  few-on : (s : ℕ) → member on s ≡ true → s < 16
+  few-on s m = let few = f .small in let x = on-bus v few s .0 m .0 in omega arith
+
+  pub plan-step : (r : Reply) → Shows r (figuresOf v (plan i)) → Planned v i r
+  unfolding figuresOf
+  plan-step r q =
+      let polled = startOn v (placeFigure (plannedPolls v i)) in
+      let first = heard-by v i polled .0 (heard-then copies on (v .n) heard-first) in
+      let g = first .0 in
+      let its = ap (λ c. c .config) (by-generation copies polled (v .n) g (first .1 .0)) in
+      let config = v .copies i g .config in
+      record {
+        g = g;
+        heard = rw (q .0) (first .1);
+        fewest = λ k l s x. clash (heard-by v i (startOn v k) .1 (s, x)) (unheard-before copies on (v .n) k (rw (q .0) at l));
+        written = λ k. let w = written-from copies on (v .n) its k in let p = promise .holds-write config (startOn v k) in
+            rw (q .1) (λ x. w .0 (p .1 x), λ x. p .0 (w .1 x));
+        unwritten = let w = unwritten copies on (v .n) its few-on in let p = promise .holds-write config on in
+            rw (q .1) (λ z x. clash (p .1 x) (w .0 z), λ n. w .1 (fails (holdsWrite config on) (λ e. n (p .0 e))));
+        noOther = q .2;
+      }
 
 -- ---- lay
 pub laid-step : (v w : State) (n m value : ℕ) (config : List ℕ) → n ≤ 16 → SameContents w (next v (lay n m value config)) → Laid w n m value config

@@ -7,7 +7,7 @@ use Rattle.layout.specs.Fields.{Copy, newCopy, read, write, change, kindByte, R
 use Rattle.layout.specs.Rounds.{withPoll, withPut, withLink}
 use Rattle.layout.specs.View.{Table, State}
 use Rattle.layout.specs.Updates.{setOff, setPolled, setPuts, setRound, noTarget, laid, putCopies, closed}
-use Rattle.rules.specs.Calls.{Call, lay, openRead, openWrite, openChange, poll, put, commit, abandon, link, reach, diagnose, isData, isOff}
+use Rattle.rules.specs.Calls.{Call, lay, openRead, openWrite, openChange, poll, put, commit, abandon, link, reach, diagnose, plan, isData, isOff}
 use Rattle.rules.specs.Figures.{Figures, closing}
 
 -- the put sets of a round, written
@@ -35,3 +35,4 @@ done t v abandon = closed t
 done t v (link s state) = putsOf (setOff t (linked v s (isOff state))) (withLink (v .round) s (isOff state))
 done t v (reach i) = t
 done t v diagnose = t
+done t v (plan i) = t

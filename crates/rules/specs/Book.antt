@@ -4,7 +4,7 @@ use mathlib.Core.Path.{_≡_}
 use mathlib.Core.List.{List, [], _∷_}
 use Prim.Native.Nat.{ℕ, zero, suc, _+_}
 use lib.ListN.{getD, set, replicate}
-use Rattle.rules.specs.Calls.{Call, lay, openRead, openWrite, openChange, poll, put, commit, abandon, link, reach, diagnose}
+use Rattle.rules.specs.Calls.{Call, lay, openRead, openWrite, openChange, poll, put, commit, abandon, link, reach, diagnose, plan}
 use Rattle.rules.specs.declared.Reply.{Reply}
 
 -- "It keeps, for each of 32 items, a value, a count of writes and a count of changes." The 32 stands in the step of a lay.
@@ -53,6 +53,7 @@ step b abandon = record { items = b .items; noted = none }
 step b (link s state) = b
 step b (reach i) = b
 step b diagnose = b
+step b (plan i) = b
 
 -- "Any call whose number is not 0: the book stays as it was."
 unfoldable pub fed : Book → Call → ℕ → Book

@@ -1,5 +1,5 @@
--- The calls with their arguments: numbers of any size, configurations as lists of any length (document 01, "The calls"; diagnose is document 02's, 2026-04).
--- What a caller can pass is in Passed.antt.
+-- The calls with their arguments: numbers of any size, configurations as lists of any length (document 01, "The calls"; diagnose and plan are document
+-- 02's, 2026-04 and 2026-05). What a caller can pass is in Passed.antt.
 use mathlib.Core.Bool.{Bool, true, false}
 use mathlib.Core.List.{List}
 use Prim.Native.Nat.{ℕ}
@@ -18,6 +18,7 @@ pub data Call : Type 0 where
   link : (station state : ℕ) → Call
   reach : (item : ℕ) → Call
   diagnose : Call
+  plan : (item : ℕ) → Call
 
 -- what is said of a lay by its arguments, and of every other call alike
 abbrev pub layOr : {A : Type 0} → (ℕ → ℕ → ℕ → List ℕ → A) → A → Call → A
@@ -32,6 +33,7 @@ layOr f a abandon = a
 layOr f a (link s state) = a
 layOr f a (reach i) = a
 layOr f a diagnose = a
+layOr f a (plan i) = a
 
 abbrev pub isLay : Call → Bool
 isLay = layOr (λ n m value config. true) false

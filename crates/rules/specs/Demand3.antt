@@ -34,8 +34,8 @@ OneCopy b (c ∷ calls) (r ∷ rest) =
     (c ≡ commit → r .number ≡ 0 → Agrees b (fed b c (r .number)) r) × OneCopy (fed b c (r .number)) calls rest
 
 -- "The list of demand 3 begins with a lay that replies 0, on bytes of any content. After it come the ten calls above in any order,
--- with any arguments, refused ones and further lays included." And "A call on the table that a request adds joins the list": diagnose may come among
--- them (document 02, 2026-04). Of the arguments only values and configurations are bounded, by what a caller can pass (Passed.antt).
+-- with any arguments, refused ones and further lays included." And "A call on the table that a request adds joins the list": diagnose and plan may come
+-- among them (document 02, 2026-04 and 2026-05). Of the arguments only values and configurations are bounded, by what a caller can pass (Passed.antt).
 pub record Demand3 : Type 0 where
   pub one-copy : (t : Table) (b : Book) (n m value : ℕ) (config : List ℕ) (calls : List Call)
       → AreBytes t → AllPassable (lay n m value config ∷ calls) → reply t (lay n m value config) .number ≡ 0

@@ -1,4 +1,4 @@
--- The figures of each call that is done (document 01, "The calls", and document 02, 2026-03 and 2026-04).
+-- The figures of each call that is done (document 01, "The calls", and document 02, 2026-03 to 2026-05).
 use mathlib.Core.Bool.{cond}
 use Prim.Native.Nat.{ℕ, _+_}
 use Rattle.quorum.specs.Configurations.{placeFigure, holdsWrite}
@@ -6,7 +6,8 @@ use Rattle.layout.specs.Rounds.{withPoll}
 use Rattle.layout.specs.Fields.{Copy, Kind, none, read, write, change}
 use Rattle.layout.specs.Newest.{stationFigure, byGeneration, heardPlace, hears}
 use Rattle.layout.specs.View.{State, onBus, own, foundByVersion, foundByGeneration, versionFrom, readPlace}
-use Rattle.rules.specs.Calls.{Call, lay, openRead, openWrite, openChange, poll, put, commit, abandon, link, reach, diagnose}
+use Rattle.plan.specs.Plan.{plannedPolls, plannedPuts}
+use Rattle.rules.specs.Calls.{Call, lay, openRead, openWrite, openChange, poll, put, commit, abandon, link, reach, diagnose, plan}
 use Rattle.rules.specs.Rules.{numberOf}
 
 pub record Figures : Type 0 where
@@ -47,6 +48,11 @@ diagnosis v =
       third = placeFigure (readPlace v);
     }
 
+-- Document 02, 2026-05: "how many polls first make a new round heard if the stations on the bus are polled in rising number, and how many rising puts
+-- then hold a write set of the configuration found; this second figure is 0 if none can".
+abbrev pub planned : State → ℕ → Figures
+planned v i = record { first = placeFigure (plannedPolls v i); second = placeFigure (plannedPuts v i); third = 0 }
+
 -- Document 02, 2026-04: "poll's first figure becomes one plus that place, or 0", the first read place held with this station
 -- polled too. Document 01: "Reach has its figure first. All other figures are zero."
 unfoldable pub figuresOf : State → Call → Figures
@@ -61,3 +67,4 @@ figuresOf v abandon = noFigures
 figuresOf v (link s state) = noFigures
 figuresOf v (reach i) = oneFigure (reachFigure v i)
 figuresOf v diagnose = diagnosis v
+figuresOf v (plan i) = planned v i

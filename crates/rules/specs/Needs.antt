@@ -1,5 +1,5 @@
--- What each call needs, by facts about the state, and the number that it gets where one of them fails (document 01, the table of numbers; diagnose is
--- document 02's, 2026-04).
+-- What each call needs, by facts about the state, and the number that it gets where one of them fails (document 01, the table of numbers; diagnose and
+-- plan are document 02's, 2026-04 and 2026-05).
 -- What a round has found, its quorums and its counters are by quantifiers, as in Demand2.antt. Of the store's own tests two are named: soundness, whose
 -- facts are in SoundFacts.antt of the layout, and that a lay's length fits (`fits` of its View.antt).
 -- A call is refused only where a fact of its list fails. That rules out "every call refused", one of document 01's "Versions that fail".
@@ -13,10 +13,11 @@ use Rattle.quorum.specs.Sets.{member}
 use Rattle.quorum.specs.Promise.{Valid}
 use Rattle.layout.specs.Fields.{Kind, none, read, write, change}
 use Rattle.layout.specs.View.{Table, State, view, own, foundByVersion, foundByGeneration}
-use Rattle.rules.specs.Calls.{Call, lay, openRead, openWrite, openChange, poll, put, commit, abandon, link, reach, diagnose}
+use Rattle.plan.specs.Plan.{startOn}
+use Rattle.rules.specs.Calls.{Call, lay, openRead, openWrite, openChange, poll, put, commit, abandon, link, reach, diagnose, plan}
 use Rattle.rules.specs.Calls.{isLay, dataSort, configSort, offState, onState}
 use Rattle.rules.specs.Reply.{reply}
-use Rattle.rules.specs.Demand2.{Found, HeardRound, Spent, Written}
+use Rattle.rules.specs.Demand2.{Found, HeardBy, HeardRound, Spent, Written}
 
 -- facts with their numbers, in the order in which they are asked for
 abbrev pub Needs : Type 1
@@ -61,6 +62,10 @@ SpentAtPut v f read sort = ⊥
 SpentAtPut v f write sort = (sort ≡ dataSort) × Spent v f write
 SpentAtPut v f change sort = (sort ≡ configSort) × Spent v f change
 
+-- 15, document 02, 2026-05: some start of the rising order of the stations on the bus is heard
+abbrev pub InHearing : State → ℕ → Type 0
+InHearing v i = (k : ℕ) × (g : ℕ) × HeardBy v i (startOn v k) g
+
 -- What each call needs; "lay tests 2, then 1, then 3". With nothing polled nothing is found, and 10 and 11 are not asked: 8 comes first.
 unfoldable pub needs : State → Call → Needs
 needs v (lay n m value config) = (2, (1 ≤ n) × (n ≤ 16) × (1 ≤ m) × (m ≤ 32)) ∷ (1, v .fits n m ≡ true) ∷ (3, Valid n config) ∷ []
@@ -81,6 +86,7 @@ needs v abandon = (1, v .isSound ≡ true) ∷ (5, v .round .kind ≡ none → �
 needs v (link s state) = (1, v .isSound ≡ true) ∷ (2, (s < v .n) × ((state ≡ offState) ⊎ (state ≡ onState))) ∷ []
 needs v (reach i) = (1, v .isSound ≡ true) ∷ (2, i < v .m) ∷ []
 needs v diagnose = (1, v .isSound ≡ true) ∷ (5, v .round .kind ≡ none → ⊥) ∷ []
+needs v (plan i) = (1, v .isSound ≡ true) ∷ (2, i < v .m) ∷ (15, InHearing v i) ∷ []
 
 -- a call is allowed if it has all that it needs
 abbrev pub Allowed : State → Call → Type 0

@@ -13,7 +13,7 @@ use Rattle.quorum.specs.Sets.{member}
 use Rattle.layout.specs.Fields.{none}
 use Rattle.layout.specs.View.{Table, view}
 use Rattle.layout.specs.Updates.{setOff, laid}
-use Rattle.rules.specs.Calls.{Call, lay, openRead, openWrite, openChange, poll, put, commit, abandon, link, reach, diagnose}
+use Rattle.rules.specs.Calls.{Call, lay, openRead, openWrite, openChange, poll, put, commit, abandon, link, reach, diagnose, plan}
 use Rattle.rules.specs.Calls.{dataSort, configSort, onState, isOn}
 use Rattle.rules.specs.Passed.{Passable}
 use Rattle.rules.specs.Reply.{reply, after}
@@ -34,6 +34,7 @@ onAfter s on abandon = on
 onAfter s on (link k state) = cond (eqb s k) (isOn state) on
 onAfter s on (reach i) = on
 onAfter s on diagnose = on
+onAfter s on (plan i) = on
 
 -- the same after calls with the replies to them; a call that is refused moves none
 abbrev pub onAfterAll : ℕ → Bool → List Call → List Reply → Bool

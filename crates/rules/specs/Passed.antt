@@ -2,7 +2,7 @@
 -- arguments every number is allowed for: one that document 01 does not list gets 2.
 use Prim.Native.Nat.{ℕ, _^_, _<_}
 use Rattle.basics.specs.Bytes.{AreBytes}
-use Rattle.rules.specs.Calls.{Call, lay, openRead, openWrite, openChange, poll, put, commit, abandon, link, reach, diagnose}
+use Rattle.rules.specs.Calls.{Call, lay, openRead, openWrite, openChange, poll, put, commit, abandon, link, reach, diagnose, plan}
 
 abbrev pub Word : ℕ → Type 0
 Word x = x < 2 ^ 64
@@ -19,3 +19,4 @@ Passable abandon = Unit {0}
 Passable (link s state) = Unit {0}
 Passable (reach i) = Unit {0}
 Passable diagnose = Unit {0}
+Passable (plan i) = Unit {0}

@@ -4,11 +4,12 @@ use mathlib.Core.List.{List, [], _∷_}
 use Prim.Native.Nat.{ℕ, _-_, _^_}
 use lib.Dec.{ltb, eqb}
 use Rattle.quorum.specs.Sets.{member}
-use Rattle.quorum.specs.Configurations.{valid, holdsWrite}
+use Rattle.quorum.specs.Configurations.{valid, isPlace, holdsWrite}
 use Rattle.layout.specs.Layout.{listed}
 use Rattle.layout.specs.Fields.{Kind, none, read, write, change}
 use Rattle.layout.specs.View.{State, foundByVersion, foundByGeneration, heard}
-use Rattle.rules.specs.Calls.{Call, lay, openRead, openWrite, openChange, poll, put, commit, abandon, link, reach, diagnose}
+use Rattle.plan.specs.Plan.{plannedPolls}
+use Rattle.rules.specs.Calls.{Call, lay, openRead, openWrite, openChange, poll, put, commit, abandon, link, reach, diagnose, plan}
 use Rattle.rules.specs.Calls.{isLay, isData, isConfigSort, isOff, isOn}
 
 -- tests with their numbers, in the order in which they are made; the first that applies gives the number, 0 is done
@@ -103,6 +104,8 @@ tests v (link s state) = (noStation v s || noLink state, 2) ∷ []
 tests v (reach i) = (noItem v i, 2) ∷ []
 -- document 02, 2026-04: "It gets 1 and 5 as commit does."
 tests v diagnose = (isIdle v, 5) ∷ []
+-- document 02, 2026-05: "15 out of hearing (no such start of the rising order is heard), last for this call after 1 and 2"
+tests v (plan i) = (noItem v i, 2) ∷ (not (isPlace (plannedPolls v i)), 15) ∷ []
 
 -- every call but lay asks first whether the table is sound
 unfoldable pub refusals : State → Call → Chain

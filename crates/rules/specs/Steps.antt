@@ -17,7 +17,8 @@ use Rattle.layout.specs.Fields.{Kind, none, read, write, change, Round}
 use Rattle.layout.specs.Newest.{IsNewest}
 use Rattle.layout.specs.View.{Table, State, view, onBus, own}
 use Rattle.layout.specs.Updates.{noTarget}
-use Rattle.rules.specs.Calls.{Call, lay, openRead, openWrite, openChange, poll, put, commit, abandon, link, reach, diagnose}
+use Rattle.plan.specs.Plan.{startOn}
+use Rattle.rules.specs.Calls.{Call, lay, openRead, openWrite, openChange, poll, put, commit, abandon, link, reach, diagnose, plan}
 use Rattle.rules.specs.Calls.{dataSort, configSort, offState, onState}
 use Rattle.rules.specs.Passed.{Passable}
 use Rattle.rules.specs.Reply.{reply, after}
@@ -161,6 +162,19 @@ pub record Diagnosed (v : State) (r : Reply) : Type 0 where
   pub noStation : (r .second ≡ 0) ↔ (v .round .polled ≡ 0)
   pub place : OwnPlaceShown v (r .third)
 
+-- ---- plan, document 02, 2026-05: "how many polls first make a new round heard if the stations on the bus are polled in rising number, and how many
+-- rising puts then hold a write set of the configuration found; this second figure is 0 if none can". By the starts of that order (`startOn`; what they
+-- have is in Starts.antt of the plan). What that means for rounds is in PlanExact.antt.
+pub record Planned (v : State) (i : ℕ) (r : Reply) : Type 0 where
+  -- polling that many finds the configuration of a station g, and is heard; polling fewer is not
+  pub g : ℕ
+  pub heard : HeardBy v i (startOn v (r .first)) g
+  pub fewest : (k : ℕ) → k < r .first → (s : ℕ) → HeardBy v i (startOn v k) s → ⊥
+  -- puts at so many stations hold a write set of it exactly if the figure is not 0 and they are not fewer; all of them do unless it is 0
+  pub written : (k : ℕ) → QuorumIn (writeSet (v .copies i g .config)) (startOn v k) ↔ ((1 ≤ r .second) × (r .second ≤ k))
+  pub unwritten : (r .second ≡ 0) ↔ (QuorumIn (writeSet (v .copies i g .config)) (onBus v) → ⊥)
+  pub noOther : r .third ≡ 0
+
 -- the state before a call, the state after it, and its reply
 abbrev pub Step : Call → State → State → Reply → Type 0
 Step (lay n m value config) v w r = Laid w n m value config
@@ -174,8 +188,10 @@ Step abandon v w r = Opened v w none 0 0 noTarget
 Step (link s state) v w r = Linked v w s state
 Step (reach i) v w r = Reached v i r
 Step diagnose v w r = Diagnosed v r
+Step (plan i) v w r = Planned v i r
 
 pub record Steps : Type 0 where
   pub step : (t : Table) (c : Call) → AreBytes t → Passable c → reply t c .number ≡ 0 → Step c (view t) (view (after t c)) (reply t c)
   pub reach-changes-nothing : (t : Table) (i : ℕ) → after t (reach i) ≡ t
   pub diagnose-changes-nothing : (t : Table) → after t diagnose ≡ t
+  pub plan-changes-nothing : (t : Table) (i : ℕ) → after t (plan i) ≡ t
