@@ -25,7 +25,7 @@ use Rattle.rules.specs.Reply.{replyOf, reply, after}
 use Rattle.rules.specs.Lists.{replies, afterAll}
 use Rattle.rules.specs.Needs.{needs}
 use Rattle.rules.specs.Alike.{Alike}
-use Rattle.rules.specs.ReachExact.{polls, puts, AllDone, lastFigure}
+use Rattle.rules.specs.WholeRounds.{polls, puts, AllDone, lastFigure}
 use Rattle.rules.proofs.Judged.{is-done, a-round, at-station, sound-number}
 use Rattle.rules.proofs.Demand1.{refusal-changes-nothing}
 use Rattle.rules.proofs.Steps.{on-bus}
@@ -37,10 +37,10 @@ use Rattle.rules.proofs.Alike.{alike-tables}
 abbrev pub ThoseOn : State → List ℕ → Type 0
 ThoseOn v order = (s : ℕ) → among order s ≡ true → member (onBus v) s ≡ true
 
-first-on : (v : State) (s : ℕ) (order : List ℕ) → ThoseOn v (s ∷ order) → member (onBus v) s ≡ true
+pub first-on : (v : State) (s : ℕ) (order : List ℕ) → ThoseOn v (s ∷ order) → member (onBus v) s ≡ true
 first-on v s order on = on s (or-left (eqb s s) (among order s) (eq-eqb s s refl))
 
-rest-on : (v : State) (s : ℕ) (order : List ℕ) → ThoseOn v (s ∷ order) → ThoseOn v order
+pub rest-on : (v : State) (s : ℕ) (order : List ℕ) → ThoseOn v (s ∷ order) → ThoseOn v order
 rest-on v s order on k m = on k (or-right (eqb k s) (among order k) m)
 
 -- a round with puts at them
@@ -118,6 +118,22 @@ module _ (v : State) (isSound : v .isSound ≡ true) (few : v .n ≤ 16) where
     commit-number = sound-number w commit refl isSound ∙ rw (a-round (r .kind) .1 busy)
 
   -- ---- polls of stations on the bus, one after the other
+  pub record OnePolled (r : Round) (u : Table) (s : ℕ) : Type 0 where
+    pub done : reply u (poll s) .number ≡ 0
+    pub says : reply u (poll s) .first ≡ placeFigure (heardPlace (v .copies (r .item)) (join (r .polled) s) (v .n))
+    pub asking : Asking v (withPoll r s) (after u (poll s))
+
+  pub one-polled : (s : ℕ) → member (onBus v) s ≡ true → (r : Round) (u : Table) → Asking v r u
+      → r .item < v .m → (r .kind ≡ none → ⊥) → r .dataPuts ≡ 0 → r .configPuts ≡ 0 → OnePolled r u s
+  one-polled s on r u a item busy d c =
+      let told = polled-done r busy s on d c in
+      let done = same-number r u a item (poll s) ∙ told in
+      record {
+        done = done;
+        says = ap (λ q. q .first) (same-reply r u a item (poll s)) ∙ polled-says r busy s told;
+        asking = goes-on r u a (poll s) (λ q. withPoll q s) tt done (next-view u (poll s) done (a .bytes) tt);
+      }
+
   pub record AllPolled (r : Round) (u : Table) (order : List ℕ) (x : ℕ) : Type 0 where
     pub done : AllDone (replies u (polls order))
     pub says : lastFigure x (replies u (polls order)) ≡ placeFigure (heardPlace (v .copies (r .item)) (joined (r .polled) order) (v .n))
@@ -129,12 +145,9 @@ module _ (v : State) (isSound : v .isSound ≡ true) (few : v .n ≤ 16) where
   unfolding replies afterAll
   all-polled [] on r u a item busy d c x e = record { done = tt; says = e; asking = a }
   all-polled (s ∷ order) on r u a item busy d c x e =
-      let told = polled-done r busy s (first-on v s order on) d c in
-      let done = same-number r u a item (poll s) ∙ told in
-      let next = goes-on r u a (poll s) (λ q. withPoll q s) tt done (next-view u (poll s) done (a .bytes) tt) in
-      let rest = all-polled order (rest-on v s order on) (withPoll r s) (after u (poll s)) next item busy d c
-      (reply u (poll s) .first) (ap (λ q. q .first) (same-reply r u a item (poll s)) ∙ polled-says r busy s told) in
-      record { done = (done, rest .done); says = rest .says; asking = rest .asking }
+      let one = one-polled s (first-on v s order on) r u a item busy d c in
+      let rest = all-polled order (rest-on v s order on) (withPoll r s) (after u (poll s)) (one .asking) item busy d c _ (one .says) in
+      record { done = (one .done, rest .done); says = rest .says; asking = rest .asking }
 
   -- ---- puts of one sort at them: all are done where the round is heard, the sort right, and no counter spent
   pub record AllPut (sort : ℕ) (r : Round) (u : Table) (places : List ℕ) : Type 0 where

@@ -14,6 +14,7 @@ pub mod Kept
 pub mod OffAtFirst
 pub mod Alike
 pub mod Asking
+pub mod WholeRounds
 pub mod OnTheBus
 pub mod NoneFinishes
 pub mod OutOfReach

@@ -9,6 +9,7 @@ use native.Mathlib.Omega.{arith}
 use lib.Dec.{eqb}
 use Rattle.basics.specs.Bytes.{AreBytes}
 use Rattle.basics.proofs.Tests.{clash, fails}
+use Rattle.quorum.specs.Orders.{joined}
 use Rattle.quorum.specs.Configurations.{writeSet, valid}
 use Rattle.quorum.specs.Promise.{QuorumIn, _⊆_}
 use Rattle.quorum.proofs.Promise.{promise}
@@ -29,7 +30,8 @@ use Rattle.rules.specs.Book.{Book, entry, step, fed}
 use Rattle.rules.specs.Needs.{needs}
 use Rattle.rules.specs.Steps.{SameCopies}
 use Rattle.rules.specs.Demand2.{HeardBy}
-use Rattle.rules.specs.ReachExact.{AllOn, polls, Readable, OutOfReach, DoneGiving, OverLists, ReachExact}
+use Rattle.rules.specs.WholeRounds.{polls, DoneGiving}
+use Rattle.rules.specs.ReachExact.{AllOn, Readable, OutOfReach, OverLists, ReachExact}
 use Rattle.rules.proofs.Quorums.{heard-by}
 use Rattle.rules.proofs.Judged.{numbered}
 use Rattle.rules.proofs.Demand1.{refusal-has-no-figures}
@@ -39,7 +41,8 @@ use Rattle.rules.proofs.Steps.{three}
 use Rattle.rules.proofs.Laws.{done-allowed, done-step, bytes-kept}
 use Rattle.rules.proofs.Kept.{after-sound}
 use Rattle.rules.proofs.Demand3.{goes-on, after-lists}
-use Rattle.rules.proofs.OnTheBus.{allHeard, canWrite, no-write-told, reads-told, zero-told, reach-figure, read-shows, asks-read}
+use Rattle.rules.proofs.WholeRounds.{read-shows, read-begun}
+use Rattle.rules.proofs.OnTheBus.{all-joined, allHeard, canWrite, no-write-told, reads-told, zero-told, reach-figure}
 use Rattle.rules.proofs.OnTheBus.{exact-hears, exact-reads, exact-writes, exact-changes}
 use Rattle.rules.proofs.Alike.{alike-tables}
 use Rattle.rules.proofs.OutOfReach.{stays}
@@ -67,7 +70,7 @@ module _ (t : Table) (b : Book) (bytes : AreBytes t) (isSound : sound t ≡ true
 
   module _ (i : ℕ) (item : i < now .m) where
     figure : reply t (reach i) .first ≡ three (allHeard now i) (canWrite now i)
-    figure = reach-figure t bytes asked i item
+    figure = reach-figure t bytes i asked item
 
     valid-there : (s : ℕ) → s < now .n → valid (now .n) (now .copies i s .config) ≡ true
     valid-there s l = is-sound t asked .configs i s item l
@@ -107,9 +110,10 @@ module _ (t : Table) (b : Book) (bytes : AreBytes t) (isSound : sound t ≡ true
     gives-entry order r all idle =
         let h = reads-told (allHeard now i) (canWrite now i) .0 (rw figure at r) in
         let opens = numbered .done-exactly t (openRead i) .1 (asked, (item, (idle, tt))) in
-        let number = exact-reads t bytes i order all opens .finished .1 (r, λ x. x, tt) in
-        let shows = read-shows t bytes asked i item order all (after t (openRead i)) (asks-read t bytes i order all opens) number in
-        let x = heard-current (now .n) (now .copies i) _ _ _ (onBus now) (inv .kept i item) valid-there h in
+        let number = exact-reads t bytes i opens order all .finished .1 (r, λ x. x, tt) in
+        let shows = read-shows t bytes asked i item order (λ s m. sym (all s) ∙ m) (after t (openRead i)) (read-begun t bytes i opens .asking)
+        number in
+        let x = heard-current (now .n) (now .copies i) _ _ _ (joined 0 order) (inv .kept i item) valid-there (rw (all-joined now (is-sound t asked .small) order all) h) in
         (number, record { value = shows .0 ∙ x .value; writes = shows .1 ∙ x .version; changes = shows .2 ∙ x .generation })
 
   -- where reach has a figure, the item is one of the table's
@@ -155,10 +159,9 @@ pub reach-exact : ReachExact
 reach-exact =
     record {
       any-round = any-round;
-      hears = λ t c i order b p o e all. exact-hears t b i order all c p o e;
-      reads = λ t i order b e all. exact-reads t b i order all e;
-      writes = λ t i value order places b p e all everywhere. exact-writes t b i order all value p e places everywhere;
-      changes = λ t i target order places others b p e all everywhere elsewhere.
-          exact-changes t b i order all target p e places others everywhere elsewhere;
+      hears = λ t c i order b p o e all. exact-hears t b i c p o e order all;
+      reads = λ t i order b e all. exact-reads t b i e order all;
+      writes = λ t i value order places b p e all there. exact-writes t b i value p e order places all there;
+      changes = λ t i target order places others b p e all there elsewhere. exact-changes t b i target p e order places others all there elsewhere;
       over-lists = after-lists OverLists over-lists;
     }

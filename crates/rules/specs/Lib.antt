@@ -15,6 +15,7 @@ pub mod Twice
 pub mod LayAlone
 pub mod Alike
 pub mod Demand3
+pub mod WholeRounds
 pub mod ReachExact
 pub mod DiagnoseExact
 pub mod SoundKept

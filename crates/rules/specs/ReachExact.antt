@@ -8,23 +8,24 @@ use mathlib.Core.Path.{_≡_}
 use mathlib.Core.Bool.{true, false}
 use mathlib.Core.List.{List, [], _∷_, _++_}
 use mathlib.Core.Logic.{_↔_, _⊎_}
-use Prim.Native.Nat.{ℕ, _-_, _^_, _≤_}
+use Prim.Native.Nat.{ℕ, _≤_}
 use Rattle.basics.specs.Bytes.{AreBytes}
 use Rattle.quorum.specs.Sets.{member}
 use Rattle.quorum.specs.Orders.{among}
 use Rattle.quorum.specs.Configurations.{writeSet}
 use Rattle.quorum.specs.Promise.{QuorumIn, _⊆_}
-use Rattle.layout.specs.Fields.{Copy, none, change}
+use Rattle.layout.specs.Fields.{none, change}
 use Rattle.layout.specs.Soundness.{sound}
 use Rattle.layout.specs.View.{Table, State, view, onBus}
-use Rattle.rules.specs.Calls.{Call, lay, openRead, openWrite, openChange, poll, put, commit, abandon, reach}
+use Rattle.rules.specs.Calls.{Call, lay, openRead, openWrite, openChange, commit, abandon, reach}
 use Rattle.rules.specs.Calls.{isLay, dataSort, configSort}
 use Rattle.rules.specs.Passed.{Passable}
 use Rattle.rules.specs.Reply.{reply, after}
 use Rattle.rules.specs.Lists.{replies, afterAll, AllPassable}
-use Rattle.rules.specs.Book.{Book, Entry, entry, Gives, fedAll}
+use Rattle.rules.specs.Book.{Book, entry, fedAll}
 use Rattle.rules.specs.Demand2.{HeardBy}
 use Rattle.rules.specs.Steps.{SameCopies, PlaceShown}
+use Rattle.rules.specs.WholeRounds.{Opens, polls, puts, AllDone, lastFigure, Closes, SpentAt, DoneGiving}
 use Rattle.rules.specs.declared.Reply.{Reply}
 
 -- ---- all stations on the bus, in any order
@@ -32,34 +33,10 @@ use Rattle.rules.specs.declared.Reply.{Reply}
 abbrev pub AllOn : State → List ℕ → Type 0
 AllOn v order = (s : ℕ) → among order s ≡ member (onBus v) s
 
--- a poll of each, and a put of a sort at each
-abbrev pub polls : List ℕ → List Call
-polls [] = []
-polls (s ∷ rest) = poll s ∷ polls rest
-
-abbrev pub puts : ℕ → List ℕ → List Call
-puts sort [] = []
-puts sort (s ∷ rest) = put s sort ∷ puts sort rest
-
 -- ---- what the figure says of one table
--- an opening of item i. It is done on a sound table that has the item and has no open round; that of a change needs a valid target too (Needs.antt).
-pub data Opens : Call → ℕ → Type 0 where
-  of-read : {i : ℕ} → Opens (openRead i) i
-  of-write : {i value : ℕ} → Opens (openWrite i value) i
-  of-change : {i : ℕ} {target : List ℕ} → Opens (openChange i target) i
-
 -- a figure that says that the item can be read
 abbrev pub Readable : ℕ → Type 0
 Readable figure = (figure ≡ 1) ⊎ (figure ≡ 3)
-
--- every call is done; the first figure of the last reply, or the one given where there is none
-abbrev pub AllDone : List Reply → Type 0
-AllDone [] = Unit {0}
-AllDone (r ∷ rest) = (r .number ≡ 0) × AllDone rest
-
-abbrev pub lastFigure : ℕ → List Reply → ℕ
-lastFigure x [] = x
-lastFigure x (r ∷ rest) = lastFigure (r .first) rest
 
 -- the replies to the polls: all are done, and the last shows the read place of what they find together (2026-04). With nobody on the bus there is no poll
 -- and no reply, and nothing is heard.
@@ -68,19 +45,6 @@ pub record PollsSay (v : State) (i figure : ℕ) (answers : List Reply) : Type 0
   pub place : PlaceShown v i (onBus v) (lastFigure 0 answers)
   pub heard : (1 ≤ lastFigure 0 answers) ↔ Readable figure
   pub unheard : (lastFigure 0 answers ≡ 0) ↔ (figure ≡ 0)
-
--- the number of the commit after such calls, by whether a counter that the round must raise is spent, and whether the quorums that it must write are on the
--- bus
-pub record Closes (figure number : ℕ) (Spent OnBus : Type 0) : Type 0 where
-  pub unheard : (number ≡ 8) ↔ (figure ≡ 0)
-  pub spent : (number ≡ 10) ↔ (Readable figure × Spent)
-  pub short : (number ≡ 11) ↔ (Readable figure × (Spent → ⊥) × (OnBus → ⊥))
-  pub finished : (number ≡ 0) ↔ (Readable figure × (Spent → ⊥) × OnBus)
-  pub noOther : (number ≡ 0) ⊎ ((number ≡ 8) ⊎ ((number ≡ 10) ⊎ (number ≡ 11)))
-
--- some copy of item i at a station on the bus has the last number of a counter, which has eight bytes: that number is then the greatest, the one found
-abbrev pub SpentOn : (Copy → ℕ) → State → ℕ → Type 0
-SpentOn counter v i = (s : ℕ) × (member (onBus v) s ≡ true) × (counter (v .copies i s) ≡ 2 ^ 64 - 1)
 
 -- ---- what it says over a list of demand 3
 -- each commit of a round on item i that has polled only these stations gets 8, up to the first lay that is done or commit that finishes a change of item i
@@ -108,10 +72,6 @@ pub record OutOfReach (t : Table) (i : ℕ) : Type 0 where
   pub stays-unheard : ((view t .round .kind ≡ none → ⊥) → view t .round .item ≡ i → view t .round .polled ⊆ onBus (view t))
       → (calls : List Call) → AllPassable calls → StaysUnheard i t calls
 
--- a commit that is done, and gives what the book has for the item
-abbrev pub DoneGiving : Entry → Reply → Type 0
-DoneGiving e r = (r .number ≡ 0) × Gives e r
-
 -- the table t and the book after a list
 pub record OverLists (t : Table) (b : Book) : Type 0 where
   pub zero : (i : ℕ) → reply t (reach i) .number ≡ 0 → reply t (reach i) .first ≡ 0 → OutOfReach t i
@@ -133,18 +93,18 @@ pub record ReachExact : Type 0 where
       → PollsSay (view t) i (reply t (reach i) .first) (replies (after t c) (polls order))
   -- the commit of a read with those polls
   pub reads : (t : Table) (i : ℕ) (order : List ℕ) → AreBytes t → reply t (openRead i) .number ≡ 0 → AllOn (view t) order
-      → Closes (reply t (reach i) .first) (reply (afterAll t (openRead i ∷ polls order)) commit .number) ⊥ (Unit {0})
+      → Closes (reply (afterAll t (openRead i ∷ polls order)) commit .number) (Readable (reply t (reach i) .first)) ⊥ (Unit {0})
   -- that of a write, with data puts at all of them, in any order too
   pub writes : (t : Table) (i value : ℕ) (order dataAt : List ℕ) → AreBytes t → Passable (openWrite i value) → reply t (openWrite i value) .number ≡ 0
       → AllOn (view t) order → AllOn (view t) dataAt
-      → Closes (reply t (reach i) .first) (reply (afterAll t (openWrite i value ∷ polls order ++ puts dataSort dataAt)) commit .number)
-      (SpentOn (λ c. c .version) (view t) i) (reply t (reach i) .first ≡ 3)
+      → Closes (reply (afterAll t (openWrite i value ∷ polls order ++ puts dataSort dataAt)) commit .number) (Readable (reply t (reach i) .first))
+      (SpentAt (λ c. c .version) (view t) i (onBus (view t))) (reply t (reach i) .first ≡ 3)
   -- that of a change, with data puts and then configuration puts at all of them: they must hold a write set of the target as well
   pub changes : (t : Table) (i : ℕ) (target order dataAt configAt : List ℕ) → AreBytes t → Passable (openChange i target)
       → reply t (openChange i target) .number ≡ 0 → AllOn (view t) order → AllOn (view t) dataAt → AllOn (view t) configAt
-      → Closes (reply t (reach i) .first)
-      (reply (afterAll t (openChange i target ∷ polls order ++ (puts dataSort dataAt ++ puts configSort configAt))) commit .number)
-      (SpentOn (λ c. c .generation) (view t) i) ((reply t (reach i) .first ≡ 3) × QuorumIn (writeSet target) (onBus (view t)))
+      → Closes (reply (afterAll t (openChange i target ∷ polls order ++ (puts dataSort dataAt ++ puts configSort configAt))) commit .number)
+      (Readable (reply t (reach i) .first)) (SpentAt (λ c. c .generation) (view t) i (onBus (view t)))
+      ((reply t (reach i) .first ≡ 3) × QuorumIn (writeSet target) (onBus (view t)))
   -- over every list of demand 3, refused calls and further lays included, whatever the book held before it
   pub over-lists : (t : Table) (b : Book) (n m value : ℕ) (config : List ℕ) (calls : List Call)
       → AreBytes t → AllPassable (lay n m value config ∷ calls) → reply t (lay n m value config) .number ≡ 0
