@@ -1,18 +1,18 @@
 -- The plan of an item: what its two figures say of starts.
-use mathlib.Core.Path.{_≡_, refl, sym, ap, _∙_}
+use mathlib.Core.Path.{_≡_, refl, ap}
 use mathlib.Core.Bool.{true, false}
 use mathlib.Core.List.{List}
 use mathlib.Core.Logic.{_↔_}
 use Prim.Native.Nat.{ℕ, zero, suc, _≤_, _<_}
 use native.Mathlib.Omega.{arith}
 use lib.ListN.{length}
-use Rattle.basics.proofs.Tests.{clash, either, fails}
+use Rattle.basics.proofs.Tests.{clash, fails}
 use Rattle.basics.proofs.Listing.{passing-few}
 use Rattle.quorum.specs.Sets.{member}
 use Rattle.quorum.specs.Configurations.{placeFigure, isPlace, holdsWrite}
 use Rattle.quorum.proofs.Promise.{promise}
 use Rattle.layout.specs.Fields.{Copy}
-use Rattle.layout.specs.Newest.{byGeneration, hears}
+use Rattle.layout.specs.Newest.{hears}
 use Rattle.layout.proofs.Newer.{by-generation-same, hears-same}
 use Rattle.plan.specs.Starts.{rising, start, firstStart}
 use Rattle.plan.specs.Plan.{pollsNeeded, firstHeard, foundFirst, putsNeeded}

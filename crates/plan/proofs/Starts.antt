@@ -11,12 +11,11 @@ use lib.ListN.{length, take, getD}
 use lib.Seq.{take-all}
 use borrow.Author.Tests.{eqb-true, eq-eqb, leb-true, leb-false}
 use Rattle.basics.specs.Tests.{Some}
-use Rattle.basics.specs.Listing.{Listing}
 use Rattle.basics.proofs.Tests.{clash, either, fails, or-left, or-right, or-cases}
 use Rattle.basics.proofs.Listing.{listing}
 use Rattle.quorum.specs.Sets.{member}
 use Rattle.quorum.specs.Orders.{among, joined}
-use Rattle.quorum.specs.Configurations.{firstPlace, placeFigure}
+use Rattle.quorum.specs.Configurations.{placeFigure}
 use Rattle.quorum.specs.Promise.{_⊆_}
 use Rattle.quorum.specs.declared.Place.{Place}
 use Rattle.quorum.proofs.Promise.{promise}

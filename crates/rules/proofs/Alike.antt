@@ -11,11 +11,14 @@ use Rattle.basics.specs.Bytes.{AreBytes}
 use Rattle.basics.proofs.Tests.{clash, either}
 use Rattle.quorum.specs.Sets.{member, join, remove}
 use Rattle.quorum.specs.Configurations.{placeFigure, isPlace, valid}
-use Rattle.layout.specs.Fields.{Kind, none, read, write, change}
+use Rattle.layout.specs.Layout.{tableLength}
+use Rattle.layout.specs.Fields.{Kind, none, read, write, change, Round}
 use Rattle.layout.specs.Rounds.{withPoll, withPut, withLink}
 use Rattle.layout.specs.Newest.{stationFigure, heardPlace}
+use Rattle.layout.specs.Soundness.{sound}
 use Rattle.layout.specs.View.{Table, State, view, own, foundByVersion, foundByGeneration, versionFrom, readPlace, heard, onBus, SameContents}
-use Rattle.layout.proofs.Soundness.{is-sound}
+use Rattle.layout.proofs.Soundness.{is-sound, sound-facts}
+use Rattle.layout.proofs.Held.{withRound}
 use Rattle.layout.proofs.Newer.{version-station-same, by-version-same, by-generation-same, place-same, hears-same}
 use Rattle.layout.proofs.Stored.{stored}
 use Rattle.plan.specs.Plan.{plannedPolls, plannedPuts}
@@ -28,6 +31,7 @@ use Rattle.rules.specs.After.{stores}
 use Rattle.rules.specs.Reply.{replyOf, reply, after, answer}
 use Rattle.rules.specs.Lists.{replies, afterAll, AllPassable}
 use Rattle.rules.specs.Needs.{needs, Allowed}
+use Rattle.rules.specs.Steps.{SameCopies}
 use Rattle.rules.specs.Alike.{Alike, AlikeTables}
 use Rattle.rules.proofs.Chains.{first-applies}
 use Rattle.rules.proofs.Judged.{allowed, lay-number, sound-number, unsound-number}
@@ -297,3 +301,15 @@ same-replies t u (c ∷ calls) bt bu p a =
 
 pub alike-tables : AlikeTables
 alike-tables = record { same-reply = λ v w c a i. same-reply v w a i c; alike-after = alike-after; same-replies = same-replies }
+
+-- ---- a call that does not look at the open round replies the same on sound tables with the same stations on the bus and the same copies
+pub no-round-matters : (c : Call) → ((w : State) (r : Round) → replyOf (withRound w r) c ≡ replyOf w c) → (t u : Table) → sound t ≡ true → sound u ≡ true
+    → SameCopies (view t) (view u) → view u .off ≡ view t .off → reply u c ≡ reply t c
+unfolding view
+no-round-matters c apart t u s s′ same off =
+    alike-tables .same-reply (view u) (withRound (view t) (view u .round)) c (record {
+      isSound = s′ ∙ sym s;
+      fits = λ n m. ap (λ l. eqb l (tableLength n m)) (sound-facts u s′ .size ∙ rw (same .n, same .m) (sym (sound-facts t s .size)));
+      contents = record { n = same .n; m = same .m; off = off; round = refl; copies = same .copies };
+    }) (λ _. is-sound u s′ .item)
+    ∙ apart (view t) (view u .round)

@@ -15,6 +15,7 @@ pub mod OffAtFirst
 pub mod Alike
 pub mod Asking
 pub mod WholeRounds
+pub mod Reading
 pub mod OnTheBus
 pub mod NoneFinishes
 pub mod OutOfReach

@@ -3,11 +3,10 @@ use mathlib.Core.Path.{_≡_, refl, ap}
 use mathlib.Core.Bool.{Bool, true, false, not, _&&_}
 use mathlib.Core.Logic.{_↔_}
 use mathlib.Core.List.{List}
-use Prim.Native.Nat.{ℕ, zero, suc, _-_, _^_, _≤_}
-use native.Mathlib.Omega.{arith}
+use Prim.Native.Nat.{ℕ, _-_, _^_}
 use borrow.Author.Tests.{eqb-true, eq-eqb, not-false}
-use Rattle.basics.proofs.Tests.{clash, either, fails, and-left, and-right, and-both}
-use Rattle.quorum.specs.Configurations.{firstRead, placeFigure, holdsRead}
+use Rattle.basics.proofs.Tests.{clash, fails, and-left, and-right, and-both}
+use Rattle.quorum.specs.Configurations.{firstRead, placeFigure}
 use Rattle.quorum.proofs.Promise.{promise}
 use Rattle.layout.specs.Fields.{Kind, none, read, write, change}
 use Rattle.layout.specs.Newest.{byGeneration, heardPlace, hears}

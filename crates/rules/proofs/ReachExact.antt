@@ -2,62 +2,50 @@
 -- heard: where all stations on the bus are not heard, no part of them is, and where they are, they give what is current.
 use mathlib.Core.Path.{_≡_, refl, sym, ap, _∙_}
 use mathlib.Core.Bool.{true, false}
-use mathlib.Core.List.{List, _∷_}
+use mathlib.Core.List.{List}
 use mathlib.Core.Logic.{inl, ⊎-elim}
 use Prim.Native.Nat.{ℕ, zero, suc, _<_}
 use native.Mathlib.Omega.{arith}
-use lib.Dec.{eqb}
 use Rattle.basics.specs.Bytes.{AreBytes}
 use Rattle.basics.proofs.Tests.{clash, fails}
 use Rattle.quorum.specs.Orders.{joined}
 use Rattle.quorum.specs.Configurations.{writeSet, valid}
 use Rattle.quorum.specs.Promise.{QuorumIn, _⊆_}
 use Rattle.quorum.proofs.Promise.{promise}
-use Rattle.layout.specs.Layout.{tableLength}
-use Rattle.layout.specs.Fields.{none}
 use Rattle.layout.specs.Newest.{byGeneration, hears}
 use Rattle.layout.specs.Soundness.{sound}
 use Rattle.layout.specs.View.{Table, State, view, onBus}
-use Rattle.layout.proofs.Soundness.{is-sound, sound-facts}
-use Rattle.layout.proofs.Held.{withRound}
+use Rattle.layout.proofs.Soundness.{is-sound}
 use Rattle.layout.proofs.Newer.{by-generation}
-use Rattle.rules.specs.Calls.{openRead, commit, abandon, reach}
+use Rattle.rules.specs.Calls.{reach}
 use Rattle.rules.specs.Rules.{numberOf, refusals, tests}
 use Rattle.rules.specs.Figures.{figuresOf}
-use Rattle.rules.specs.Reply.{replyOf, reply, after}
-use Rattle.rules.specs.Lists.{afterAll}
-use Rattle.rules.specs.Book.{Book, entry, step, fed}
+use Rattle.rules.specs.Reply.{replyOf, reply}
+use Rattle.rules.specs.Book.{Book}
 use Rattle.rules.specs.Needs.{needs}
 use Rattle.rules.specs.Steps.{SameCopies}
 use Rattle.rules.specs.Demand2.{HeardBy}
-use Rattle.rules.specs.WholeRounds.{polls, DoneGiving}
+use Rattle.rules.specs.WholeRounds.{polls}
 use Rattle.rules.specs.ReachExact.{AllOn, Readable, OutOfReach, OverLists, ReachExact}
 use Rattle.rules.proofs.Quorums.{heard-by}
-use Rattle.rules.proofs.Judged.{numbered}
 use Rattle.rules.proofs.Demand1.{refusal-has-no-figures}
 use Rattle.rules.proofs.Copies.{heard-current, heard-grows}
 use Rattle.rules.proofs.Book.{Follows}
 use Rattle.rules.proofs.Steps.{three}
-use Rattle.rules.proofs.Laws.{done-allowed, done-step, bytes-kept}
-use Rattle.rules.proofs.Kept.{after-sound}
-use Rattle.rules.proofs.Demand3.{goes-on, after-lists}
-use Rattle.rules.proofs.WholeRounds.{read-shows, read-begun}
+use Rattle.rules.proofs.Laws.{done-allowed}
+use Rattle.rules.proofs.Demand3.{after-lists}
 use Rattle.rules.proofs.OnTheBus.{all-joined, allHeard, canWrite, no-write-told, reads-told, zero-told, reach-figure}
 use Rattle.rules.proofs.OnTheBus.{exact-hears, exact-reads, exact-writes, exact-changes}
-use Rattle.rules.proofs.Alike.{alike-tables}
+use Rattle.rules.proofs.Alike.{no-round-matters}
+use Rattle.rules.proofs.Reading.{gives-entry, gives-after-abandon}
 use Rattle.rules.proofs.OutOfReach.{stays}
 use Rattle.rules.proofs.NoneFinishes.{none-finishes}
 
 -- ---- the open round does not matter
 any-round : (t u : Table) (i : ℕ) → sound t ≡ true → sound u ≡ true → SameCopies (view t) (view u) → view u .off ≡ view t .off
     → reply u (reach i) ≡ reply t (reach i)
-unfolding view replyOf numberOf refusals tests figuresOf
-any-round t u i s s′ same off =
-    alike-tables .same-reply (view u) (withRound (view t) (view u .round)) (reach i) (record {
-      isSound = s′ ∙ sym s;
-      fits = λ n m. ap (λ l. eqb l (tableLength n m)) (sound-facts u s′ .size ∙ rw (same .n, same .m) (sym (sound-facts t s .size)));
-      contents = record { n = same .n; m = same .m; off = off; round = refl; copies = same .copies };
-    }) (λ _. is-sound u s′ .item)
+unfolding replyOf numberOf refusals tests figuresOf
+any-round t u i = no-round-matters (reach i) (λ w r. refl) t u
 
 -- ---- a table that follows the book
 module _ (t : Table) (b : Book) (bytes : AreBytes t) (isSound : sound t ≡ true) (inv : Follows (view t) b) where
@@ -104,18 +92,6 @@ module _ (t : Table) (b : Book) (bytes : AreBytes t) (isSound : sound t ≡ true
               (record { those = onBus now; on = λ s m. m; polled = polled; deaf = λ _. none-heard e }) p;
         }
 
-    gives-entry : (order : List ℕ) → Readable (reply t (reach i) .first) → AllOn now order → now .round .kind ≡ none
-        → DoneGiving (entry (b .items) i) (reply (afterAll t (openRead i ∷ polls order)) commit)
-    unfolding needs afterAll
-    gives-entry order r all idle =
-        let h = reads-told (allHeard now i) (canWrite now i) .0 (rw figure at r) in
-        let opens = numbered .done-exactly t (openRead i) .1 (asked, (item, (idle, tt))) in
-        let number = exact-reads t bytes i opens order all .finished .1 (r, λ x. x, tt) in
-        let shows = read-shows t bytes asked i item order (λ s m. sym (all s) ∙ m) (after t (openRead i)) (read-begun t bytes i opens .asking)
-        number in
-        let x = heard-current (now .n) (now .copies i) _ _ _ (joined 0 order) (inv .kept i item) valid-there (rw (all-joined now (is-sound t asked .small) order all) h) in
-        (number, record { value = shows .0 ∙ x .value; writes = shows .1 ∙ x .version; changes = shows .2 ∙ x .generation })
-
   -- where reach has a figure, the item is one of the table's
   reached-item : (i : ℕ) → Readable (reply t (reach i) .first) → i < now .m
   unfolding needs
@@ -127,23 +103,12 @@ module _ (t : Table) (b : Book) (bytes : AreBytes t) (isSound : sound t ≡ true
           let z = refusal-has-no-figures t (reach i) (λ q. let y : suc k ≡ 0 = sym e ∙ q in omega arith) .0 in
           absurd (⊎-elim (λ q. let y : _≡_ {A = ℕ} 0 1 = sym z ∙ q in omega arith) (λ q. let y : _≡_ {A = ℕ} 0 3 = sym z ∙ q in omega arith) r)
 
-  reads-there : (i : ℕ) (order : List ℕ) → Readable (reply t (reach i) .first) → AllOn now order → now .round .kind ≡ none
-      → DoneGiving (entry (b .items) i) (reply (afterAll t (openRead i ∷ polls order)) commit)
-  reads-there i order r = gives-entry i (reached-item i r) order r
-
--- the same after an abandon
-reads-after-abandon : (t : Table) (b : Book) → AreBytes t → sound t ≡ true → Follows (view t) b → (i : ℕ) (order : List ℕ)
-    → Readable (reply t (reach i) .first) → AllOn (view t) order → (view t .round .kind ≡ none → ⊥)
-    → DoneGiving (entry (b .items) i) (reply (afterAll t (abandon ∷ openRead i ∷ polls order)) commit)
-unfolding needs afterAll fed view
-reads-after-abandon t b bytes s inv i order r all busy =
-    let e = numbered .done-exactly t abandon .1 (s, (busy, tt)) in
-    let u = after t abandon in
-    let d = done-step t abandon e bytes tt in
-    let s′ = after-sound t abandon bytes tt e in
-    let follows : Follows (view u) (step b abandon) = rw e at (goes-on t b abandon bytes tt inv) in
-    reads-there u (step b abandon) (bytes-kept t abandon bytes tt) s′ follows i order
-    (rw (any-round t u i s s′ (d .copies) (d .off)) r) (rw (d .copies .n, d .off) all) (d .round .kind)
+  -- the stations on the bus are heard where it is 1 or 3
+  all-heard : (i : ℕ) (order : List ℕ) → Readable (reply t (reach i) .first) → AllOn now order
+      → (i < now .m) × (hears (now .copies i) (joined 0 order) (now .n) ≡ true)
+  all-heard i order r all =
+      let item = reached-item i r in
+      (item, rw (all-joined now (is-sound t asked .small) order all) (reads-told (allHeard now i) (canWrite now i) .0 (rw (figure i item) at r)))
 
 over-lists : (t : Table) (b : Book) → AreBytes t → sound t ≡ true → Follows (view t) b → OverLists t b
 unfolding needs
@@ -151,8 +116,10 @@ over-lists t b bytes s inv =
     record {
       zero = λ i done. out-of-reach t b bytes s inv i (done-allowed t (reach i) done .1 .0);
       one = λ i e. no-write-set t b bytes s inv i (reached-item t b bytes s inv i (inl e)) e;
-      reads-the-book = reads-there t b bytes s inv;
-      reads-after-abandon = reads-after-abandon t b bytes s inv;
+      reads-the-book = λ i order r all. let h = all-heard t b bytes s inv i order r all in
+          gives-entry t b bytes s inv i (h .0) order (λ k m. sym (all k) ∙ m) (h .1);
+      reads-after-abandon = λ i order r all. let h = all-heard t b bytes s inv i order r all in
+          gives-after-abandon t b bytes s inv i (h .0) order (λ k m. sym (all k) ∙ m) (h .1);
     }
 
 pub reach-exact : ReachExact

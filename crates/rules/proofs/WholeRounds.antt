@@ -8,13 +8,12 @@ use native.Mathlib.Omega.{arith}
 use borrow.Author.Tests.{eqb-true, eq-eqb}
 use Rattle.basics.specs.Bytes.{AreBytes}
 use Rattle.basics.proofs.Tests.{clash}
-use Rattle.quorum.specs.Sets.{member}
 use Rattle.quorum.specs.Orders.{among, joined}
 use Rattle.quorum.specs.Promise.{_⊆_}
-use Rattle.quorum.specs.Configurations.{firstRead, placeFigure, holdsWrite}
+use Rattle.quorum.specs.Configurations.{firstRead, holdsWrite}
 use Rattle.quorum.proofs.Promise.{promise}
 use Rattle.layout.specs.Fields.{Copy, Kind, none, read, write, change, Round}
-use Rattle.layout.specs.Newest.{IsNewest, byVersion, byGeneration, heardPlace, hears}
+use Rattle.layout.specs.Newest.{IsNewest, byVersion, byGeneration, hears}
 use Rattle.layout.specs.Rounds.{withPolled, withPuts}
 use Rattle.layout.specs.View.{Table, State, view, SameContents, onBus}
 use Rattle.layout.specs.Updates.{noTarget}
@@ -28,7 +27,7 @@ use Rattle.rules.specs.Passed.{Passable}
 use Rattle.rules.specs.Rules.{numberOf, last, spent, written}
 use Rattle.rules.specs.Figures.{figuresOf, closing}
 use Rattle.rules.specs.Reply.{replyOf, reply, after}
-use Rattle.rules.specs.Lists.{replies, afterAll}
+use Rattle.rules.specs.Lists.{afterAll}
 use Rattle.rules.specs.Needs.{needs}
 use Rattle.rules.specs.WholeRounds.{Opens, of-read, of-write, of-change, polls, puts, Closes, SpentAt}
 use Rattle.rules.proofs.Judged.{a-round}

@@ -1,0 +1,1 @@
+// Plan is exact: theorems on rounds.
