@@ -57,6 +57,10 @@ module _ (set : ℕ) where
       ∙ ap (λ b. b || among (take k order) s) (promise .member-empty s) in
       (λ m. among-first order k s .0 (sym e ∙ m), λ p. e ∙ among-first order k s .1 p)
 
+  -- who stands in the order is in the set
+  pub in-set : (k s : ℕ) → among (take k order) s ≡ true → member set s ≡ true
+  in-set k s m = placed k s (among-first order k s .0 m) .1
+
   -- it is a part of the set, and of every longer start
   pub start-part : (k : ℕ) → start order k ⊆ set
   start-part k s m = placed k s (has k s .0 m) .1
