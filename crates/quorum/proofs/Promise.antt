@@ -138,4 +138,5 @@ promise =
       within-minus = within-minus;
       within-remove = λ n a k. within-minus n a (2 ^ k);
       within-16 = λ n a l w. let h = ltb-true a (2 ^ n) w in let p : 2 ^ n ≤ 2 ^ 16 = pow-mono l in omega arith;
+      small-within = λ a l. lt-ltb a (2 ^ 16) l;
     }

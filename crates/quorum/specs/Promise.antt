@@ -122,3 +122,4 @@ pub record Promise : Type 0 where
   pub within-minus : (n a b : ℕ) → within n a ≡ true → within n (minus a b) ≡ true
   pub within-remove : (n a k : ℕ) → within n a ≡ true → within n (remove a k) ≡ true
   pub within-16 : (n a : ℕ) → n ≤ 16 → within n a ≡ true → a < 65536
+  pub small-within : (a : ℕ) → a < 65536 → within 16 a ≡ true

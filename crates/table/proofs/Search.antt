@@ -1,6 +1,6 @@
 -- The newest copies: the needs of the two searches, said once over any key.
 use mathlib.Core.Path.{_≡_, refl, sym, _∙_}
-use mathlib.Core.Bool.{Bool, true, false, cond, and-true}
+use mathlib.Core.Bool.{Bool, true, false, cond, and-true, and-false}
 use mathlib.Core.List.{List}
 use mathlib.Core.Option.{Option, none, some}
 use Prim.Native.Nat.{ℕ, zero, suc, _+_, _≤_, _<_}
@@ -40,17 +40,35 @@ newest-below key set n = go (newest key set n) (is-newest key set n)
     go none f = tt
     go (some b) f = f .station
 
--- ---- the station s, whose copy starts at d, against the newest before it, b, whose copy starts at a
-module _ (t : List ℕ) (n item : ℕ) (field : Copy → ℕ) (s : ℕ) {b a d old new : ℕ} {best : Station} {test : Bool} (p : best ≡ At b)
-    (q : a ≡ address n item b) (r : d ≡ address n item s) (x : old ≡ field (copyFrom t a)) (y : new ≡ field (copyFrom t d)) (z : test ≡ ltb old new) where
-  compared : cond test (some s) (some b) ≡ newer (λ u. field (copiesOf t n item u)) s (asOption best)
-  compared = rw (p, z, x, y, q, r)
+-- ---- the copies at two stations: b's starts at a, s's at d, and the test is whether that of s is newer by a field
+pub compared : (t : List ℕ) (n item : ℕ) (field : Copy → ℕ) (b s : ℕ) {a d old new : ℕ} {test : Bool} → a ≡ address n item b → d ≡ address n item s
+    → old ≡ field (copyFrom t a) → new ≡ field (copyFrom t d) → test ≡ ltb old new
+    → ltb (field (copiesOf t n item b)) (field (copiesOf t n item s)) ≡ test
+compared t n item field b s q r x y z = rw (z, x, y, q, r)
 
-  pub taken : test ≡ true → some s ≡ newer (λ u. field (copiesOf t n item u)) s (asOption best)
-  taken h = rw h at compared
+-- the newer of two stations is one of them
+pub newer-some : (key : ℕ → ℕ) (s b : ℕ) → newer key s (some b) ≡ some (cond (ltb (key b) (key s)) s b)
+newer-some key s b = by-cases (λ (t : Bool). cond t (some s) (some b) ≡ some (cond t s b)) (ltb (key b) (key s)) (λ _. refl) (λ _. refl)
 
-  pub kept : test ≡ false → some b ≡ newer (λ u. field (copiesOf t n item u)) s (asOption best)
-  kept h = rw h at compared
+-- ---- the lowest station of a set, and the set without it
+-- a set that is not 0 has a station
+not-empty : (a : ℕ) → (a ≡ 0 → ⊥) → used a ≡ true
+not-empty a h =
+    by-cases (λ (b : Bool). used a ≡ b → b ≡ true) (used a) (λ _ _. refl)
+    (λ _ e. absurd (h (promise .same-members a 0 (λ i m. clash (promise .used-member a .1 (i, m)) e) (λ i m. clash m (promise .member-empty i))))) refl
+
+module _ (set : ℕ) (small : set < 65536) (h : set ≡ 0 → ⊥) where
+  pub lowest-in : member set (lowest set) ≡ true
+  lowest-in = promise .lowest-member set small (not-empty set h)
+
+  pub left-less : {left : ℕ} → left ≡ remove set (lowest set) → left < set
+  left-less r = rw r (promise .remove-less set (lowest set) lowest-in)
+
+pub others : (set s i : ℕ) → (i ≡ s → ⊥) → member (remove set s) i ≡ member set i
+others set s i h = promise .member-remove set i s ∙ rw (ne-eqb i s h, and-true)
+
+pub taken-out : (set s : ℕ) → member (remove set s) s ≡ false
+taken-out set s = promise .member-remove set s s ∙ rw (eq-eqb s s refl, and-false)
 
 -- ---- a walk over the stations of a set, lowest first
 -- the newest of an answer and of the stations below a bound that are in the set
@@ -78,26 +96,14 @@ module _ (key : ℕ → ℕ) where
 
   -- the lowest station of a set may be taken first
   module _ (o : Option ℕ) (set s : ℕ) (m : member set s ≡ true) (low : (i : ℕ) → i < s → member set i ≡ false) where
-    others : (i : ℕ) → (i ≡ s → ⊥) → member (remove set s) i ≡ member set i
-    others i h = promise .member-remove set i s ∙ rw (ne-eqb i s h, and-true)
-
-    taken-out : member (remove set s) s ≡ false
-    taken-out = promise .member-remove set s s ∙ rw (m, eq-eqb s s refl)
-
     onto-lowest : (n : ℕ) → s < n → onto key o set n ≡ onto key (newer key s o) (remove set s) n
     unfolding onto
     onto-lowest zero l = absurd (not-suc-le-zero l)
     onto-lowest (suc k) l =
         either (eqb k s)
-        (λ e. rw (eqb-true k s e, m, onto-none o set s low, taken-out)
-        (sym (onto-none (newer key s o) (remove set s) s (λ i l. others i (λ z. omega arith) ∙ low i l))))
-        (λ e. let h : k ≡ s → ⊥ = eqb-false k s e in rw (onto-lowest k (omega arith), others k h))
-
--- a set that is not 0 has a station
-not-empty : (a : ℕ) → (a ≡ 0 → ⊥) → used a ≡ true
-not-empty a h =
-    by-cases (λ (b : Bool). used a ≡ b → b ≡ true) (used a) (λ _ _. refl)
-    (λ _ e. absurd (h (promise .same-members a 0 (λ i m. clash (promise .used-member a .1 (i, m)) e) (λ i m. clash m (promise .member-empty i))))) refl
+        (λ e. rw (eqb-true k s e, m, onto-none o set s low, taken-out set s)
+        (sym (onto-none (newer key s o) (remove set s) s (λ i l. others set s i (λ z. omega arith) ∙ low i l))))
+        (λ e. let h : k ≡ s → ⊥ = eqb-false k s e in rw (onto-lowest k (omega arith), others set s k h))
 
 newer-below : (key : ℕ → ℕ) (s n : ℕ) → s < n → (o : Option ℕ) → Below n o → Below n (newer key s o)
 newer-below key s n l none h = l
@@ -118,16 +124,14 @@ module _ {key : ℕ → ℕ} {set n rest : ℕ} {o : Option ℕ} (w : Walk key s
   walk-past q g = ends (λ i l. promise .below-lowest rest i (omega arith))
 
   module _ {left : ℕ} (h : rest ≡ 0 → ⊥) (r : left ≡ remove rest (lowest rest)) where
-    lowest-in : member rest (lowest rest) ≡ true
-    lowest-in = promise .lowest-member rest (w .small) (not-empty rest h)
-
     pub walk-less : left < rest
-    walk-less = rw r (promise .remove-less rest (lowest rest) lowest-in)
+    walk-less = left-less rest (w .small) h r
 
     pub walk-turn : {s : ℕ} → s ≡ lowest rest → s < n → {best : Option ℕ} → best ≡ newer key s o → Walk key set n best left
     walk-turn q l p =
         record {
-          whole = rw (r, p, q) (sym (onto-lowest key o rest (lowest rest) lowest-in (promise .below-lowest rest) n (omega arith)) ∙ w .whole);
+          whole = rw (r, p, q)
+              (sym (onto-lowest key o rest (lowest rest) (lowest-in rest (w .small) h) (promise .below-lowest rest) n (omega arith)) ∙ w .whole);
           below = rw p (newer-below key _ n l o (w .below));
           small = omega (arith, walk-less, w .small);
         }

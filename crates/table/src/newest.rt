@@ -1,5 +1,7 @@
 // What the copies of an item at the stations of a set give: the newest by version and the newest by generation.
 ghost use mathlib.Core.Path.{_≡_};
+ghost use mathlib.Core.Bool.{cond};
+ghost use lib.Dec.{ltb};
 ghost use Prim.Native.Nat.{_<_, _≤_};
 ghost use Rattle.layout.specs.Newest.{newest, newer, versionStation, generationStation, stationFigure};
 ghost use Rattle.table.specs.Search.{asOption, Below, InTable, copiesOf, versionsOf, generationsOf};
@@ -45,6 +47,18 @@ fn newer_version(t: &[u8], n: usize, item: usize, best: Station, s: usize) -> St
     Station::At(b)
 }
 
+// Of two stations s, if its generation is greater than that of b; else b.
+pub fn newer_of(t: &[u8], n: usize, item: usize, b: usize, s: usize) -> usize
+    requires { ⌜ InTable (now t) n item × (b < n) × (s < n) ⌝ }
+    ensures { λ r. ⌜ r ≡ cond (ltb (generationsOf (now (t .entry)) n item b) (generationsOf (now (t .entry)) n item s)) s b ⌝ }
+{
+    let old = generation_at(t, address(n, item, b));
+    if generation_at(t, address(n, item, s)).is_newer(old) {
+        return s;
+    }
+    b
+}
+
 fn newer_generation(t: &[u8], n: usize, item: usize, best: Station, s: usize) -> Station
     requires { ⌜ InTable (now t) n item × (s < n) × Below n (asOption best) ⌝ }
     ensures { λ r. ⌜ asOption r ≡ newer (generationsOf (now (t .entry)) n item) s (asOption best) ⌝ }
@@ -52,11 +66,7 @@ fn newer_generation(t: &[u8], n: usize, item: usize, best: Station, s: usize) ->
     let Station::At(b) = best else {
         return Station::At(s);
     };
-    let old = generation_at(t, address(n, item, b));
-    if generation_at(t, address(n, item, s)).is_newer(old) {
-        return Station::At(s);
-    }
-    Station::At(b)
+    Station::At(newer_of(t, n, item, b, s))
 }
 
 // The station of the set with the newest version of the item; the lowest on equal versions.

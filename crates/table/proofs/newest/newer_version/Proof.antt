@@ -1,4 +1,7 @@
-use Rattle.table.proofs.Search.{copy-range, copy-fits, found-below, taken, kept}
+use mathlib.Core.Path.{_≡_, _∙_}
+use lib.Dec.{ltb}
+use Rattle.table.specs.Search.{versionsOf}
+use Rattle.table.proofs.Search.{copy-range, copy-fits, found-below, compared}
 use borrow.Author.Needs.{needs}
 use Rattle.table.proofs.newest.newer_version.Statement.{statement}
 use Rattle.table.proofs.newest.newer_version.Tie as tie
@@ -35,21 +38,25 @@ version-at-requires-2 c κs =
 is-newer-requires : tie.Need-is-newer-requires
 is-newer-requires c κs = search needs
 
-returns-2 : tie.Need-returns-2
-returns-2 c =
-    let new = c .before .before in
+-- from the test back to the newest before s
+abbrev known : tie.After-is-newer → tie.After-known-told
+known c = c .before .before .before .before .before
+
+-- what is tested
+is-newer : (c : tie.After-is-newer) → let start = known c .before .before .before .before .args in
+    let version = versionsOf (start .t .now) (start .n) (start .item) in
+    ltb (version (known c .before .best .given .0 .0)) (version (start .s)) ≡ c .is-newer .result
+is-newer c =
+    let new = c .before in
     let old = new .before .before in
-    let told = old .before .before .before in
-    taken _ _ _ (λ x. x .version) _ (told .best .given .1) (old .before .address .ensures) (new .before .address2 .ensures) (old .version-at .ensures)
-    (new .version-at2 .ensures) (c .before .is-newer .ensures) (c .if1 .taken)
+    compared _ _ _ (λ x. x .version) _ _ (old .before .address .ensures) (new .before .address2 .ensures) (old .version-at .ensures)
+    (new .version-at2 .ensures) (c .is-newer .ensures)
+
+returns-2 : tie.Need-returns-2
+returns-2 c = rw (known (c .before) .before .best .given .1, is-newer (c .before) ∙ c .if1 .taken)
 
 returns-3 : tie.Need-returns-3
-returns-3 c =
-    let new = c .before .before in
-    let old = new .before .before in
-    let told = old .before .before .before in
-    kept _ _ _ (λ x. x .version) _ (told .best .given .1) (old .before .address .ensures) (new .before .address2 .ensures) (old .version-at .ensures)
-    (new .version-at2 .ensures) (c .before .is-newer .ensures) (c .if1 .left)
+returns-3 c = rw (known (c .before) .before .best .given .1, is-newer (c .before) ∙ c .if1 .left)
 
 pub newer-version-spec : {M : Type 1} → statement M
 newer-version-spec =

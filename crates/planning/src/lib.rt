@@ -1,0 +1,58 @@
+// How many polls and puts a round will take: a walk over the stations on the bus for each, the lowest first.
+ghost use mathlib.Core.Path.{_≡_};
+ghost use mathlib.Core.Bool.{true};
+ghost use Rattle.quorum.specs.Sets.{within};
+ghost use Rattle.quorum.specs.Configurations.{placeFigure, holdsWrite};
+ghost use Rattle.table.specs.Search.{InTable};
+ghost use Rattle.plan.specs.Starts.{rising, firstStart};
+ghost use Rattle.planning.specs.Planning.{Says};
+use table::copy::address;
+use table::copy::config_at;
+use table::newest::newer_of;
+
+// After how many polls a round is first heard, and the station whose copy then gives the configuration found.
+pub enum Heard {
+    After(u64, usize),
+    Never,
+}
+
+// The first start of the rising order that is heard.
+pub fn first_heard(t: &[u8], n: usize, item: usize, on: u16) -> Heard
+    requires { ⌜ InTable (now t) n item × (within n on ≡ true) ⌝ }
+    ensures { λ r. ⌜ Says (now (t .entry)) n item on r ⌝ }
+{
+    let mut polls = 0u64;
+    let mut polled = 0u16;
+    let mut g = sets::lowest(on);
+    let mut rest = on;
+    while rest != 0 {
+        let s = sets::lowest(rest);
+        rest = sets::without_lowest(rest);
+        polls = polls + 1;
+        polled = sets::with_station(polled, s);
+        g = newer_of(t, n, item, g, s);
+        if sets::holds_read_set(config_at(t, address(n, item, g)), polled) {
+            return Heard::After(polls, g);
+        }
+    }
+    Heard::Never
+}
+
+// How many stations, from the start of the rising order, hold a write set of the configuration; 0 where all of them do not.
+pub fn puts_needed(config: &[u8], on: u16) -> u64
+    ensures { λ r. ⌜ r ≡ placeFigure (firstStart (holdsWrite (now (config .entry))) (rising on)) ⌝ }
+{
+    let mut puts = 0u64;
+    let mut written = 0u16;
+    let mut rest = on;
+    while rest != 0 {
+        let s = sets::lowest(rest);
+        rest = sets::without_lowest(rest);
+        puts = puts + 1;
+        written = sets::with_station(written, s);
+        if sets::holds_write_set(config, written) {
+            return puts;
+        }
+    }
+    0
+}
