@@ -33,7 +33,7 @@ module _ (copies : ℕ → Copy) (on n : ℕ) where
   hears-nothing = promise .none-read _
 
   -- neither figure is more than the stations on the bus, which are 16 at most
-  polls-listed : polls ≤ length order
+  pub polls-listed : polls ≤ length order
   unfolding pollsNeeded
   polls-listed = in-order (λ set. hears copies set n) order hears-nothing
 

@@ -1,5 +1,5 @@
 -- Polls one after the other: which of them is the first that shows the round heard.
-use mathlib.Core.Path.{_≡_, refl, _∙_}
+use mathlib.Core.Path.{_≡_, _∙_}
 use mathlib.Core.Bool.{true, false}
 use mathlib.Core.List.{List, [], _∷_}
 use Prim.Native.Nat.{ℕ, zero, suc, _≤_, _<_}
@@ -41,8 +41,8 @@ module _ (v : State) (isSound : v .isSound ≡ true) (few : v .n ≤ 16) where
       → ((k : ℕ) → k < length order → hears (v .copies (r .item)) (joined (r .polled) (take (suc k) order)) (v .n) ≡ false)
       → NeverHeard (replies u (polls order))
   unfolding replies hears
-  never-heard [] on r u a item busy d c none = tt
-  never-heard (s ∷ order) on r u a item busy d c none =
+  never-heard [] on r u a item busy d c nowhere = tt
+  never-heard (s ∷ order) on r u a item busy d c nowhere =
       let one = one-polled v isSound few s (first-on v s order on) r u a item busy d c in
-      let rest = never-heard order (rest-on v s order on) (withPoll r s) (after u (poll s)) (one .asking) item busy d c (λ k m. none (suc k) (omega arith)) in
-      (one .done, one .says ∙ promise .figure-none _ .1 (none 0 (omega arith)), rest)
+      let rest = never-heard order (rest-on v s order on) (withPoll r s) (after u (poll s)) (one .asking) item busy d c (λ k m. nowhere (suc k) (omega arith)) in
+      (one .done, one .says ∙ promise .figure-none _ .1 (nowhere 0 (omega arith)), rest)

@@ -10,7 +10,8 @@ use lib.ListN.{length, take, length-append}
 use lib.Seq.{append-snoc, take-at}
 use borrow.Author.Tests.{eqb-true, eqb-false, ltb-true, ltb-false}
 use Rattle.basics.specs.Listing.{passing}
-use Rattle.basics.proofs.Tests.{clash, by-cases, either, or-cases}
+use Rattle.basics.proofs.Tests.{clash, either, or-cases}
+use Rattle.basics.proofs.Listing.{passing-few}
 use Rattle.quorum.specs.Sets.{member, within, join, remove, lowest}
 use Rattle.quorum.specs.Orders.{joined}
 use Rattle.quorum.specs.Configurations.{placeFigure}
@@ -26,14 +27,6 @@ none-listed : (test : ℕ → Bool) (n : ℕ) → ((i : ℕ) → i < n → test 
 unfolding passing
 none-listed test zero h = refl
 none-listed test (suc n) h = rw (none-listed test n (λ i l. h i (omega arith)), h n (omega arith))
-
--- a list of numbers below n has no more than n
-few-listed : (test : ℕ → Bool) (n : ℕ) → length (passing test n) ≤ n
-unfolding passing
-few-listed test zero = omega arith
-few-listed test (suc n) =
-    rw (length-append (passing test n) (cond (test n) (n ∷ []) []))
-    (omega (arith, few-listed test n, by-cases (λ (b : Bool). length (cond b (n ∷ []) []) ≤ 1) (test n) (λ _. omega arith) (λ _. omega arith)))
 
 -- the lowest station of a set comes first, and then those of the set without it
 module _ (set s : ℕ) (m : member set s ≡ true) (low : (i : ℕ) → i < s → member set i ≡ false) where
@@ -88,7 +81,7 @@ module _ {on count rest taken : ℕ} (p : Position on count rest taken) where
   length-split = ap length (p .order) ∙ length-append (p .front) (rising rest) ∙ ap (λ x. x + length (rising rest)) (p .long)
 
   pub count-fits : count ≤ 16
-  count-fits = omega (arith, length-split, few-listed (member on) 16)
+  count-fits = omega (arith, length-split, passing-few (member on) 16)
 
   all-taken : rest ≡ 0 → length (rising on) ≡ count
   all-taken z = omega (arith, length-split, none-left)

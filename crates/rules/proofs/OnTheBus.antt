@@ -60,7 +60,7 @@ no-write-told true true e = absurd (omega arith)
 no-write-told true false e = refl
 no-write-told false w e = absurd (omega arith)
 
-write-told : (h w : Bool) → h ≡ true → (w ≡ true) ↔ (three h w ≡ 3)
+pub write-told : (h w : Bool) → h ≡ true → (w ≡ true) ↔ (three h w ≡ 3)
 write-told true true e = (λ _. refl, λ _. refl)
 write-told true false e = (λ q. clash q refl, λ q. absurd (omega arith))
 write-told false w e = clash e refl

@@ -203,6 +203,9 @@ on-bus v few s =
       λ h. and-both (ltb s (v .n)) _ (lt-ltb s (v .n) (h .0)) (ap not (h .1)),
     )
 
+pub few-on : (v : State) → v .n ≤ 16 → (s : ℕ) → member (onBus v) s ≡ true → s < 16
+few-on v few s m = let x = on-bus v few s .0 m .0 in omega arith
+
 module _ (v : State) (i : ℕ) (f : StateSound v) where
   pub reach-step : (r : Reply) → Shows r (figuresOf v (reach i)) → Reached v i r
   unfolding figuresOf
@@ -240,11 +243,8 @@ module _ (v : State) (i : ℕ) (f : StateSound v) (h : InHearing v i) where
   on = onBus v
 
   -- some start is heard, so that the first has a place
-  heard-first : 1 ≤ placeFigure (plannedPolls v i)
+  pub heard-first : 1 ≤ placeFigure (plannedPolls v i)
   heard-first = promise .figure-place _ .1 (in-hearing copies on (v .n) .1 (h .0, heard-by v i (startOn v (h .0)) .1 (h .1, h .2)))
-
-  few-on : (s : ℕ) → member on s ≡ true → s < 16
-  few-on s m = let few = f .small in let x = on-bus v few s .0 m .0 in omega arith
 
   pub plan-step : (r : Reply) → Shows r (figuresOf v (plan i)) → Planned v i r
   unfolding figuresOf
@@ -260,7 +260,7 @@ module _ (v : State) (i : ℕ) (f : StateSound v) (h : InHearing v i) where
         fewest = λ k l s x. clash (heard-by v i (startOn v k) .1 (s, x)) (unheard-before copies on (v .n) k (rw (q .0) at l));
         written = λ k. let w = written-from copies on (v .n) its k in let p = promise .holds-write config (startOn v k) in
             rw (q .1) (λ x. w .0 (p .1 x), λ x. p .0 (w .1 x));
-        unwritten = let w = unwritten copies on (v .n) its few-on in let p = promise .holds-write config on in
+        unwritten = let w = unwritten copies on (v .n) its (few-on v (f .small)) in let p = promise .holds-write config on in
             rw (q .1) (λ z x. clash (p .1 x) (w .0 z), λ n. w .1 (fails (holdsWrite config on) (λ e. n (p .0 e))));
         noOther = q .2;
       }
