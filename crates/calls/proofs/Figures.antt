@@ -1,21 +1,19 @@
 -- The figures of poll and reach, from what the code's searches found.
-use mathlib.Core.Path.{_≡_, refl, ap, _∙_}
-use mathlib.Core.Bool.{true, cond}
+use mathlib.Core.Path.{_≡_, ap, _∙_}
+use mathlib.Core.Bool.{cond}
 use mathlib.Core.List.{List}
-use Prim.Native.Nat.{ℕ, _<_}
-use Rattle.quorum.specs.Sets.{full, minus}
+use Prim.Native.Nat.{ℕ}
 use Rattle.quorum.specs.Configurations.{placeFigure, holdsRead, holdsWrite}
 use Rattle.quorum.specs.declared.Place.{Place}
 use Rattle.layout.specs.Layout.{address}
-use Rattle.layout.specs.Fields.{stations, items, offSet, roundOf, copyFrom}
+use Rattle.layout.specs.Fields.{stations, roundOf, copyFrom}
 use Rattle.layout.specs.Newest.{newest, byGeneration, heardPlace, hears}
 use Rattle.layout.specs.Rounds.{withPoll}
-use Rattle.layout.specs.Soundness.{sound}
 use Rattle.layout.specs.View.{view, onBus}
-use Rattle.table.specs.Search.{asOption, InTable, copiesOf, generationsOf}
+use Rattle.table.specs.Search.{asOption, copiesOf, generationsOf}
 use Rattle.table.specs.declared.newest.Station.{Station}
 use Rattle.table.specs.declared.newest.Station.the-variants.{At, Nobody}
-use Rattle.rounds.proofs.Hearing.{items-in-table, nobody-unheard}
+use Rattle.rounds.proofs.Hearing.{nobody-unheard}
 use Rattle.rules.specs.Calls.{poll}
 use Rattle.rules.specs.Figures.{oneFigure, reachFigure, figuresOf}
 use Rattle.rules.specs.Reply.{answer}
@@ -35,16 +33,8 @@ poll-figure t s e f g h q =
     let own = rw (e, f, g) at h in ap figureReply (q ∙ ap placeFigure own)
 
 -- ---- reach: what polling the stations on the bus finds
--- the copies lie in the table, by the stations that were read
-pub copies-in-table : (t : List ℕ) → sound t ≡ true → {n i : ℕ} → n ≡ stations t → i < items t → InTable t n i
-copies-in-table t e a l = rw a (items-in-table t e _ l)
-
-module _ (t : List ℕ) (i : ℕ) (found : Station) {n every off on : ℕ} (a : n ≡ stations t) (q : every ≡ full n) (o : off ≡ offSet t)
-    (m : on ≡ minus every off) (e : asOption found ≡ newest (generationsOf t n i) on n) where
-  on-bus : on ≡ onBus (view t)
-  unfolding view
-  on-bus = rw (m, q, o, a) refl
-
+module _ (t : List ℕ) (i : ℕ) (found : Station) {n on : ℕ} (a : n ≡ stations t) (on-bus : on ≡ onBus (view t))
+    (e : asOption found ≡ newest (generationsOf t n i) on n) where
   -- the search by what the table says
   bus-searched : asOption found ≡ newest (generationsOf t (stations t) i) (onBus (view t)) (stations t)
   bus-searched = rw (on-bus, a) at e

@@ -13,11 +13,11 @@ use numbers::DATA;
 use numbers::DONE;
 use numbers::OFF;
 use numbers::idle_number;
+use numbers::item_number;
 use numbers::link_number;
 use numbers::plain;
 use numbers::poll_number;
 use numbers::put_number;
-use numbers::reach_number;
 use rounds::heard::heard_place;
 use rounds::round::Round;
 use rules::Reply;
@@ -26,6 +26,7 @@ use table::copy::Version;
 use table::copy::address;
 use table::copy::config_at;
 use table::head::off_set;
+use table::head::on_bus;
 use table::head::set_off;
 use table::head::set_polled;
 use table::head::set_puts;
@@ -123,7 +124,7 @@ fn reach_figure(t: &[u8], i: usize) -> u64
     ensures { λ r. ⌜ r ≡ reachFigure (view (now (t .entry))) i ⌝ }
 {
     let n = stations(t);
-    let on = sets::difference(sets::all_stations(n), off_set(t));
+    let on = on_bus(t);
     let newest = search(t, n, i, on).by_generation;
     let Station::At(g) = newest else {
         return 0;
@@ -142,7 +143,7 @@ pub fn reach_on(t: &[u8], i: u64) -> Reply
     requires { ⌜ sound (now t) ≡ true ⌝ }
     ensures { λ r. ⌜ r ≡ reply (now (t .entry)) (reach i) ⌝ }
 {
-    let number = reach_number(t, i);
+    let number = item_number(t, i);
     if number != DONE {
         return plain(number);
     }

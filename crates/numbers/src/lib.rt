@@ -54,6 +54,8 @@ pub const SPENT: u64 = 10;
 
 pub const SHORT: u64 = 11;
 
+pub const OUT_OF_HEARING: u64 = 15;
+
 pub const DATA: u64 = 1;
 
 pub const CONFIGURATION: u64 = 2;
@@ -239,7 +241,8 @@ pub fn link_number(t: &[u8], s: u64, state: u64) -> u64
     DONE
 }
 
-pub fn reach_number(t: &[u8], i: u64) -> u64
+// Of reach, and plan's first test: whether the item is there.
+pub fn item_number(t: &[u8], i: u64) -> u64
     requires { ⌜ sound (now t) ≡ true ⌝ }
     ensures { λ r. ⌜ r ≡ first (tests (view (now (t .entry))) (reach i)) ⌝ }
 {

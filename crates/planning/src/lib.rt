@@ -5,9 +5,19 @@ ghost use Rattle.quorum.specs.Sets.{within};
 ghost use Rattle.quorum.specs.Configurations.{placeFigure, holdsWrite};
 ghost use Rattle.table.specs.Search.{InTable};
 ghost use Rattle.plan.specs.Starts.{rising, firstStart};
+ghost use Rattle.layout.specs.Soundness.{sound};
+ghost use Rattle.rules.specs.Calls.{plan};
+ghost use Rattle.rules.specs.Reply.{reply};
 ghost use Rattle.planning.specs.Planning.{Says};
+use numbers::DONE;
+use numbers::OUT_OF_HEARING;
+use numbers::item_number;
+use numbers::plain;
+use rules::Reply;
 use table::copy::address;
 use table::copy::config_at;
+use table::head::on_bus;
+use table::head::stations;
 use table::newest::newer_of;
 
 // After how many polls a round is first heard, and the station whose copy then gives the configuration found.
@@ -17,7 +27,7 @@ pub enum Heard {
 }
 
 // The first start of the rising order that is heard.
-pub fn first_heard(t: &[u8], n: usize, item: usize, on: u16) -> Heard
+fn first_heard(t: &[u8], n: usize, item: usize, on: u16) -> Heard
     requires { ⌜ InTable (now t) n item × (within n on ≡ true) ⌝ }
     ensures { λ r. ⌜ Says (now (t .entry)) n item on r ⌝ }
 {
@@ -39,7 +49,7 @@ pub fn first_heard(t: &[u8], n: usize, item: usize, on: u16) -> Heard
 }
 
 // How many stations, from the start of the rising order, hold a write set of the configuration; 0 where all of them do not.
-pub fn puts_needed(config: &[u8], on: u16) -> u64
+fn puts_needed(config: &[u8], on: u16) -> u64
     ensures { λ r. ⌜ r ≡ placeFigure (firstStart (holdsWrite (now (config .entry))) (rising on)) ⌝ }
 {
     let mut puts = 0u64;
@@ -55,4 +65,27 @@ pub fn puts_needed(config: &[u8], on: u16) -> u64
         }
     }
     0
+}
+
+// How many polls and how many puts. Nothing is changed, and an open round does not matter.
+pub fn plan_on(t: &[u8], i: u64) -> Reply
+    requires { ⌜ sound (now t) ≡ true ⌝ }
+    ensures { λ r. ⌜ r ≡ reply (now (t .entry)) (plan i) ⌝ }
+{
+    let number = item_number(t, i);
+    if number != DONE {
+        return plain(number);
+    }
+    let n = stations(t);
+    let item = i as usize;
+    let on = on_bus(t);
+    let Heard::After(polls, g) = first_heard(t, n, item, on) else {
+        return plain(OUT_OF_HEARING);
+    };
+    Reply {
+        number: DONE,
+        first: polls,
+        second: puts_needed(config_at(t, address(n, item, g)), on),
+        third: 0,
+    }
 }

@@ -61,3 +61,7 @@ unfolding view
 items-in-table t e item l =
     let f = sound-facts t e in
     (f .state .small, omega (arith, f .state .fewItems), rw (f .size) (address-table (stations t) (items t) item l))
+
+-- the same by the stations that were read
+pub copies-in-table : (t : List ℕ) → sound t ≡ true → {n i : ℕ} → n ≡ stations t → i < items t → InTable t n i
+copies-in-table t e a l = rw a (items-in-table t e _ l)

@@ -5,6 +5,7 @@ ghost use lib.ListN.{length};
 ghost use Rattle.basics.specs.Bytes.{number};
 ghost use Rattle.layout.specs.Layout.{headSize, kindAt, layLength};
 ghost use Rattle.layout.specs.Fields.{stations, items, offSet, roundOf};
+ghost use Rattle.layout.specs.View.{view, onBus};
 ghost use Rattle.layout.specs.Updates.{setOff, setPolled, setPuts, setRound};
 use crate::number::byte_at;
 use crate::number::put_config_bytes;
@@ -70,6 +71,14 @@ pub fn off_set(t: &[u8]) -> u16
     ensures { λ r. ⌜ r ≡ offSet (now (t .entry)) ⌝ }
 {
     u16_at(t, OFF_AT)
+}
+
+// The stations on the bus.
+pub fn on_bus(t: &[u8]) -> u16
+    requires { ⌜ headSize ≤ length (now t) ⌝ }
+    ensures { λ r. ⌜ r ≡ onBus (view (now (t .entry))) ⌝ }
+{
+    sets::difference(sets::all_stations(stations(t)), off_set(t))
 }
 
 // The round's kind, by its byte.

@@ -7,56 +7,46 @@ use Rattle.layout.specs.View.{view}
 use Rattle.layout.proofs.Soundness.{sound-head}
 use Rattle.table.specs.Search.{InTable}
 use Rattle.table.proofs.Search.{copy-range, copy-fits}
-use Rattle.rounds.proofs.Hearing.{station-below}
+use Rattle.rounds.proofs.Hearing.{station-below, copies-in-table}
 use Rattle.rules.specs.Figures.{reachFigure}
-use Rattle.calls.proofs.Figures.{copies-in-table, nobody-reached, reached}
+use Rattle.calls.proofs.Figures.{nobody-reached, reached}
 use Rattle.calls.proofs.reach_figure.Statement.{statement}
 use Rattle.calls.proofs.reach_figure.Tie as tie
 
 -- from the stations on the bus back to the start
-abbrev at-start : tie.After-difference → tie.Start
-at-start c = c .before .before .before .before .before
+abbrev at-start : tie.After-on-bus → tie.Start
+at-start c = c .before .before .before
 
 -- the item's copies lie in the table
-in-table : (c : tie.After-difference)
-    → InTable ((at-start c .args .t) .now) (c .before .before .before .stations .result) (at-start c .args .i)
+in-table : (c : tie.After-on-bus) → InTable ((at-start c .args .t) .now) (c .before .stations .result) (at-start c .args .i)
 in-table c =
     let start = at-start c in
-    copies-in-table _ (start .pre .0) (c .before .before .before .stations .ensures) (start .pre .1)
+    copies-in-table _ (start .pre .0) (c .before .stations .ensures) (start .pre .1)
 
 -- back to the search from a station that it found
 abbrev at-search : tie.After-known-told → tie.After-search
 at-search c = c .before .before .before
 
 -- from the configuration found back to the stations on the bus
-abbrev at-bus : tie.After-config-at → tie.After-difference
+abbrev at-bus : tie.After-config-at → tie.After-on-bus
 at-bus c = at-search (c .before .before) .before
 
 -- the figure is that of the configuration and the stations on the bus that are tested
 figure : (c : tie.After-config-at)
     → reachFigure (view ((at-start (at-bus c) .args .t) .now)) (at-start (at-bus c) .args .i)
-    ≡ cond (holdsRead ((c .config-at .result) .now) (at-bus c .difference .result))
-    (cond (holdsWrite ((c .config-at .result) .now) (at-bus c .difference .result)) 3 1) 0
+    ≡ cond (holdsRead ((c .config-at .result) .now) (at-bus c .on-bus .result))
+    (cond (holdsWrite ((c .config-at .result) .now) (at-bus c .on-bus .result)) 3 1) 0
 figure c =
     let addressed = c .before in
     let told = addressed .before in
     let bus = at-bus c in
-    let off = bus .before in
-    let every = off .before in
-    reached _ _ _ (every .before .stations .ensures) (every .all-stations .ensures) (off .off-set .ensures) (bus .difference .ensures)
-    (at-search told .search .ensures .1) (told .before .newest .given .1) (addressed .address .ensures) (c .config-at .ensures)
+    reached _ _ _ (bus .before .stations .ensures) (bus .on-bus .ensures) (at-search told .search .ensures .1) (told .before .newest .given .1) (addressed .address .ensures) (c .config-at .ensures)
 
 stations-requires : tie.Need-stations-requires
 stations-requires c κs = sound-head _ (c .before .pre .0)
 
-all-stations-requires : tie.Need-all-stations-requires
-all-stations-requires c κs = search needs
-
-off-set-requires : tie.Need-off-set-requires
-off-set-requires c κs = sound-head _ (c .before .before .before .pre .0)
-
-difference-requires : tie.Need-difference-requires
-difference-requires c κs = search needs
+on-bus-requires : tie.Need-on-bus-requires
+on-bus-requires c κs = sound-head _ (c .before .before .pre .0)
 
 search-requires : tie.Need-search-requires
 search-requires c κs = in-table c
@@ -71,10 +61,7 @@ returns : tie.Need-returns
 returns c =
     let searched = c .before .before in
     let bus = searched .before in
-    let off = bus .before in
-    let every = off .before in
-    nobody-reached _ _ _ (every .before .stations .ensures) (every .all-stations .ensures) (off .off-set .ensures) (bus .difference .ensures)
-    (searched .search .ensures .1) (c .enum-told .given .1)
+    nobody-reached _ _ _ (bus .before .stations .ensures) (bus .on-bus .ensures) (searched .search .ensures .1) (c .enum-told .given .1)
 
 address-requires : tie.Need-address-requires
 address-requires c κs =
@@ -123,9 +110,7 @@ reach-figure-spec =
     tie.close
     (tie.spec
     stations-requires
-    all-stations-requires
-    off-set-requires
-    difference-requires
+    on-bus-requires
     search-requires
     enum-known-newest
     enum-told
