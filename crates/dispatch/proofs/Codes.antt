@@ -41,7 +41,7 @@ at-code code arguments c e =
     (ltb (length arguments) (frameLength code - 1)) (λ _ q. let z : _≡_ {A = ℕ} 0 1 = cc in absurd (omega arith)) (λ _ q. q) e
 
 -- ---- a code that has no call
-past-codes : (arguments : List ℕ) (code : ℕ) → 12 ≤ code → getD (callsOf arguments) code none ≡ none
+past-codes : (arguments : List ℕ) (code : ℕ) → 13 ≤ code → getD (callsOf arguments) code none ≡ none
 unfolding callsOf
 past-codes arguments code h = List·getD-eq-default (callsOf arguments) none h
 
@@ -57,13 +57,13 @@ pub no-code : (arguments : List ℕ) → callAt 0 arguments ≡ none
 unfolding frameLength callsOf
 no-code arguments = enough 0 arguments (omega arith)
 
-pub other-code : (code : ℕ) (arguments : List ℕ) → NoneOf code 11 → callAt code arguments ≡ none
+pub other-code : (code : ℕ) (arguments : List ℕ) → NoneOf code 12 → callAt code arguments ≡ none
 unfolding frameLength callsOf
 other-code code arguments n =
-    either (leb code 11)
-    (λ e. rw (code-zero code 11 n (leb-true code 11 e)) (no-code arguments))
+    either (leb code 12)
+    (λ e. rw (code-zero code 12 n (leb-true code 12 e)) (no-code arguments))
     (λ e.
-    let past = leb-false code 11 e in
+    let past = leb-false code 12 e in
     let z : frameLength code ≡ 0 = List·getD-eq-default lengths 0 past in
     enough code arguments (omega arith) ∙ past-codes arguments code past)
 
@@ -80,7 +80,7 @@ module _ (arguments : List ℕ) (h : AreBytes arguments) where
   unfolding callsOf
   all-passable =
       tt also (large 2, bytes-part arguments 10 configSize h) also tt also large 1 also bytes-part arguments 1 configSize h also tt also tt
-      also tt also tt also tt also tt also tt also tt
+      also tt also tt also tt also tt also tt also tt also tt
 
   pub passable : (code : ℕ) (c : Call) → callAt code arguments ≡ some c → Passable c
   passable code c e =
@@ -107,6 +107,7 @@ module _ (arguments more : List ℕ) where
       also (λ h. rw (same 0 1 (omega arith), same 1 1 (omega arith)))
       also (λ h. rw (same 0 1 (omega arith)))
       also (λ h. refl)
+      also (λ h. rw (same 0 1 (omega arith)))
       also tt
 
   pub unread : (code : ℕ) → frameLength code ≤ length arguments + 1 → callAt code (arguments ++ more) ≡ callAt code arguments

@@ -32,17 +32,19 @@ pub const REACH: u8 = 10;
 
 pub const DIAGNOSE: u8 = 11;
 
+pub const PLAN: u8 = 12;
+
 // "Any other line .. gets 12".
 pub const FALSE_FRAME: u64 = 12;
 
 // "Lengths in bytes by code, kept as a table"; code 00 has no frame.
-const LENGTHS: [u8; 12] = [0, 43, 2, 10, 34, 2, 3, 1, 1, 3, 2, 1];
+const LENGTHS: [u8; 13] = [0, 43, 2, 10, 34, 2, 3, 1, 1, 3, 2, 1, 2];
 
 // The length of a code's frames; 0 if it has none.
 pub fn frame_length(code: u8) -> usize
     ensures { λ r. ⌜ r ≡ frameLength code ⌝ }
 {
-    if code <= DIAGNOSE {
+    if code <= PLAN {
         LENGTHS[code as usize] as usize
     } else {
         0
@@ -111,6 +113,7 @@ pub fn perform(table: &mut [u8], code: u8, arguments: &[u8]) -> Reply
         ),
         REACH => ospreyscreen::ospreyscreen_reach(table, argument(arguments, 0)),
         DIAGNOSE => ospreyscreen::ospreyscreen_diagnose(table),
+        PLAN => ospreyscreen::ospreyscreen_plan(table, argument(arguments, 0)),
         _ => false_frame(),
     }
 }

@@ -12,7 +12,7 @@ use Rattle.quorum.specs.Configurations.{configSize}
 use Rattle.basics.proofs.Bytes.{number-one}
 use Rattle.basics.proofs.Tests.{_also_}
 use Rattle.basics.proofs.Parts.{part-length, read-bytes, bytes-of, bytes-append, bytes-drop, bytes-part, number-lt, number-bytes}
-use Rattle.rules.specs.Calls.{Call, lay, openRead, openWrite, openChange, poll, put, commit, abandon, link, reach, diagnose}
+use Rattle.rules.specs.Calls.{Call, lay, openRead, openWrite, openChange, poll, put, commit, abandon, link, reach, diagnose, plan}
 use Rattle.dispatch.specs.Dispatch.{frameLength, callsOf, callAt}
 use Rattle.dispatch.proofs.Entries.{Each, each-at}
 use Rattle.dispatch.proofs.Codes.{enough, at-code, large}
@@ -66,6 +66,7 @@ has-frame abandon h = call-of-bytes 8 [] (omega arith, tt) refl
 has-frame (link s state) h = call-of-bytes 9 (s ∷ state ∷ []) (omega arith, (h .0, (h .1, tt))) refl ∙ rw (one-byte s, one-byte state)
 has-frame (reach i) h = call-of-bytes 10 (i ∷ []) (omega arith, (h, tt)) refl ∙ rw (one-byte i)
 has-frame diagnose h = call-of-bytes 11 [] (omega arith, tt) refl
+has-frame (plan i) h = call-of-bytes 12 (i ∷ []) (omega arith, (h, tt)) refl ∙ rw (one-byte i)
 
 -- ---- a line that stands for a call is its frame
 abbrev FrameIs : List ℕ → ℕ → Option Call → Type 0
@@ -125,6 +126,7 @@ module _ (arguments : List ℕ) (h : AreBytes arguments) where
       also (λ e. (leads 9 (two-bytes e), (small 0, small 1)))
       also (λ e. (leads 10 (byte-only e), small 0))
       also (λ e. (leads 11 (end-here 0 (omega arith)), tt))
+      also (λ e. (leads 12 (byte-only e), small 0))
       also tt
 
 frame-is : (code : ℕ) (arguments : List ℕ) → AreBytes arguments → length arguments + 1 ≡ frameLength code → (c : Call)

@@ -8,7 +8,7 @@ use lib.Dec.{ltb, eqb}
 use lib.ListN.{length, getD, drop}
 use Rattle.basics.specs.Bytes.{AreBytes, bytesOf}
 use Rattle.quorum.specs.Configurations.{configSize}
-use Rattle.rules.specs.Calls.{Call, lay, openRead, openWrite, openChange, poll, put, commit, abandon, link, reach, diagnose}
+use Rattle.rules.specs.Calls.{Call, lay, openRead, openWrite, openChange, poll, put, commit, abandon, link, reach, diagnose, plan}
 use Rattle.rules.specs.Passed.{Word}
 use Rattle.dispatch.specs.Dispatch.{frameLength, callAt}
 use Rattle.frames.specs.Hex.{allDigits, bytesIn}
@@ -43,6 +43,7 @@ frameOf abandon = 8 ∷ []
 frameOf (link s state) = 9 ∷ s ∷ state ∷ []
 frameOf (reach i) = 10 ∷ i ∷ []
 frameOf diagnose = 11 ∷ []
+frameOf (plan i) = 12 ∷ i ∷ []
 
 -- "one byte each, values 8 bytes, configurations 32"
 abbrev pub IsByte : ℕ → Type 0
@@ -63,3 +64,4 @@ Framable abandon = Unit {0}
 Framable (link s state) = IsByte s × IsByte state
 Framable (reach i) = IsByte i
 Framable diagnose = Unit {0}
+Framable (plan i) = IsByte i

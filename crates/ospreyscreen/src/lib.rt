@@ -1,7 +1,7 @@
 // The calls as C links them, on any bytes and numbers. Each call on a table replies as `reply` says and leaves the table as `after` says;
 // every one but lay asks first whether the table is sound. Votes looks at no table.
 ghost use mathlib.Core.Path.{_≡_};
-ghost use Rattle.rules.specs.Calls.{lay, openRead, openWrite, openChange, poll, put, commit, abandon, link, reach, diagnose};
+ghost use Rattle.rules.specs.Calls.{lay, openRead, openWrite, openChange, poll, put, commit, abandon, link, reach, diagnose, plan};
 ghost use Rattle.rules.specs.Reply.{reply, after};
 ghost use Rattle.votes.specs.Votes.{votesReply, votesOutput};
 use calls::commit_on;
@@ -18,6 +18,7 @@ use openings::abandon_on;
 use openings::open_change_on;
 use openings::open_read_on;
 use openings::open_write_on;
+use planning::plan_on;
 use rules::Reply;
 use soundness::is_sound;
 use vote_search::votes_to_configuration;
@@ -148,6 +149,16 @@ pub extern "C" fn ospreyscreen_diagnose(table: &[u8]) -> Reply
         return plain(UNSOUND);
     }
     diagnose_on(table)
+}
+
+#[no_mangle]
+pub extern "C" fn ospreyscreen_plan(table: &[u8], item: u64) -> Reply
+    ensures { λ r. ⌜ r ≡ reply (now (table .entry)) (plan item) ⌝ }
+{
+    if !is_sound(table) {
+        return plain(UNSOUND);
+    }
+    plan_on(table, item)
 }
 
 #[no_mangle]

@@ -2,6 +2,7 @@
 use mathlib.Core.Path.{_≡_, refl}
 use mathlib.Core.Bool.{Bool, cond}
 use mathlib.Core.List.{List, [], _∷_}
+use mathlib.Core.Logic.{inl, inr}
 use mathlib.Core.Option.{Option, none, some}
 use Prim.Native.Nat.{ℕ, _<_}
 use native.Mathlib.Omega.{arith}
@@ -12,6 +13,7 @@ use Rattle.basics.proofs.Tests.{by-cases}
 use Rattle.rules.specs.Calls.{Call}
 use Rattle.rules.specs.Reply.{reply, after}
 use Rattle.rules.specs.Passed.{Passable}
+use Rattle.rules.specs.Demand1.{NumberOf}
 use Rattle.rules.proofs.Demands.{demand1}
 use Rattle.frames.specs.Hex.{bytesIn}
 use Rattle.frames.specs.Frame.{callByte, callOf}
@@ -30,11 +32,16 @@ call-byte-fits : (line : List ℕ) → callByte line < 256
 unfolding callByte
 call-byte-fits line = first-byte (bytesIn line) (bytes-in line)
 
+-- the number of a call has room in a byte
+listed-fits : {c : Call} {k : ℕ} → NumberOf c k → k < 256
+listed-fits (inl l) = omega arith
+listed-fits (inr p) = let e = p .2 in omega arith
+
 showable : (t : List ℕ) (o : Option Call) → AreBytes t → Showable (replied t o)
 showable t none b = (omega arith, omega arith, omega arith, omega arith)
 showable t (some c) b =
     let f = demand1 .figures-fit (lent t c) c (lent-bytes t c b) in
-    (omega (arith, demand1 .number-is-listed (lent t c) c), f .0, f .1, f .2)
+    (listed-fits (demand1 .number-is-listed (lent t c) c), f .0, f .1, f .2)
 
 pub prints-the-reply : (t line : List ℕ) → AreBytes t → Shows (bytesIn (printed t line)) (callByte line) (replyTo t line)
 unfolding printed replyTo

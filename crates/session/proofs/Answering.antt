@@ -35,7 +35,7 @@ module _ (used : ℕ) (arguments : List ℕ) where
   unfolding callsOf
   others =
       (λ n. refl) also (λ n. absurd (n refl)) also (λ n. refl) also (λ n. refl) also (λ n. refl) also (λ n. refl) also (λ n. refl)
-      also (λ n. refl) also (λ n. refl) also (λ n. refl) also (λ n. refl) also (λ n. refl) also tt
+      also (λ n. refl) also (λ n. refl) also (λ n. refl) also (λ n. refl) also (λ n. refl) also (λ n. refl) also tt
 
   pub in-use : (code : ℕ) → (code ≡ 1 → ⊥) → lentLength used (callAt code arguments) ≡ used
   unfolding callAt

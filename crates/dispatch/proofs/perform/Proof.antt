@@ -154,6 +154,13 @@ ospreyscreen-reach-requires c κs = search needs
 ospreyscreen-diagnose-requires : tie.Need-ospreyscreen-diagnose-requires
 ospreyscreen-diagnose-requires c κs = search needs
 
+argument-requires-12 : tie.Need-argument-requires-12
+unfolding frameLength
+argument-requires-12 c κs = let m = c .before in omega (arith, long (m .before) 12 (m .match .keys12))
+
+ospreyscreen-plan-requires : tie.Need-ospreyscreen-plan-requires
+ospreyscreen-plan-requires c κs = search needs
+
 false-frame-requires-2 : tie.Need-false-frame-requires-2
 false-frame-requires-2 c κs = search needs
 
@@ -280,8 +287,19 @@ returns-12 c =
     let m = c .before .before in
     performed _ (called (m .before) 11 (m .match .keys11)) (c .ospreyscreen-diagnose .ensures) (sym (steps .diagnose-changes-nothing _))
 
+same-length-12 : tie.Need-same-length-12
+same-length-12 c = search needs
+
 returns-13 : tie.Need-returns-13
+unfolding callsOf
 returns-13 c =
+    let x = c .ospreyscreen-plan in
+    let first = c .before in
+    let m = first .before .before in
+    performed _ (called (m .before) 12 (m .match .keys12) ∙ rw (first .argument12 .ensures)) (x .ensures) (sym (steps .plan-changes-nothing _ _))
+
+returns-14 : tie.Need-returns-14
+returns-14 c =
     let a = c .before .before .before .before .before .before .args in
     rw (other-code (a .code) (a .arguments .now) (c .before .match .rest)) (c .false-frame2 .ensures, refl)
 
@@ -325,6 +343,8 @@ perform-spec =
     argument-requires-11
     ospreyscreen-reach-requires
     ospreyscreen-diagnose-requires
+    argument-requires-12
+    ospreyscreen-plan-requires
     false-frame-requires-2
     same-length
     returns-2
@@ -348,4 +368,6 @@ perform-spec =
     returns-11
     same-length-11
     returns-12
-    returns-13)
+    same-length-12
+    returns-13
+    returns-14)
