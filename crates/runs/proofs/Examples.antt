@@ -13,6 +13,8 @@ use Rattle.layout.specs.View.{view}
 use Rattle.layout.specs.Updates.{setOff, setPolled, setPuts, setRound, putData, putConfig, copyBytes, repeated, putCopies}
 use Rattle.layout.specs.Newest.{newest, byVersion, byGeneration, hears}
 use Rattle.layout.specs.Layout.{layLength}
+use Rattle.basics.specs.Listing.{passing}
+use Rattle.plan.specs.Plan.{pollsNeeded, putsNeeded}
 use Rattle.rules.specs.Rules.{first, tests, refusals, numberOf}
 use Rattle.rules.specs.Figures.{figuresOf}
 use Rattle.rules.specs.After.{done}
@@ -39,5 +41,5 @@ unfolding text chars shown littleEndian isDigit allDigits valueOf byteOf bytesIn
     figuresOf done tableLength address sound soundness roundSound copiesValid all allBelow anyBelow valid validity setAt readSet writeSet usedFirst
     someUsed allWithin sharesAll allShare holdsPlace firstPlace orElse firstRead firstWrite placeFigure isPlace member used holds shares within join
     minus remove full copyFrom bytesOf over setOff setPolled setPuts setRound putData putConfig copyBytes repeated putCopies newest byVersion
-    byGeneration hears frameCase frameReplies mixedCase mixedReplies
+    byGeneration hears passing pollsNeeded putsNeeded frameCase frameReplies mixedCase mixedReplies
 frame-cases = refl

@@ -1,4 +1,4 @@
--- Whole runs, computed: document 01's frame case; and a mixed run of refused lines, stations that are off until linked, and diagnose.
+-- Whole runs, computed: document 01's frame case; and a mixed run of refused lines, stations that are off until linked, diagnose and plan.
 use mathlib.Core.Path.{_≡_}
 use mathlib.Core.List.{List, [], _∷_, _++_}
 use Prim.Native.Nat.{ℕ}
@@ -41,7 +41,8 @@ frameReplies = shown
 
 -- before a lay succeeds the table is empty; lines that are no frames; after a lay nothing is reached, and a poll gets 6 until its station's link; a
 -- lay that is refused, with n = 0 or a false configuration, keeps the table. Call 0B (document 02, 2026-04) has no argument; with no round it gets 5; with
--- station 1 polled commit would get 8, and with 1 and 2, which hold the third read place, it would be done
+-- station 1 polled commit would get 8, and with 1 and 2, which hold the third read place, it would be done. Call 0C (2026-05) has an item; with nobody on the bus it gets 15, and with 1 and 2 on it two polls and
+-- two puts will do
 unfoldable pub mixedCase : List ℕ
 mixedCase = shown
     ("07"
@@ -50,8 +51,11 @@ mixedCase = shown
     ∷ "0A"
     ∷ "0B00"
     ∷ "0C00"
+    ∷ "0C"
+    ∷ "0D"
     ∷ "010301F4010000000000000300050006000000000000000000000003000500060000000000000000000000"
     ∷ "0A00"
+    ∷ "0C00"
     ∷ "0B"
     ∷ "0200"
     ∷ "0501"
@@ -65,6 +69,8 @@ mixedCase = shown
     ∷ "010301F4010000000000000000000000000000000000000000000000000000000000000000000000000000"
     ∷ ""
     ∷ "0A00"
+    ∷ "0C00"
+    ∷ "0C01"
     ∷ [])
 
 unfoldable pub mixedReplies : List ℕ
@@ -74,9 +80,12 @@ mixedReplies = shown
     ∷ "000C000000000000000000000000000000000000000000000000"
     ∷ "0A0C000000000000000000000000000000000000000000000000"
     ∷ "0B0C000000000000000000000000000000000000000000000000"
+    ∷ "0C01000000000000000000000000000000000000000000000000"
     ∷ "0C0C000000000000000000000000000000000000000000000000"
+    ∷ "0D0C000000000000000000000000000000000000000000000000"
     ∷ "0100000000000000000000000000000000000000000000000000"
     ∷ "0A00000000000000000000000000000000000000000000000000"
+    ∷ "0C0F000000000000000000000000000000000000000000000000"
     ∷ "0B05000000000000000000000000000000000000000000000000"
     ∷ "0200000000000000000000000000000000000000000000000000"
     ∷ "0506000000000000000000000000000000000000000000000000"
@@ -90,6 +99,8 @@ mixedReplies = shown
     ∷ "0103000000000000000000000000000000000000000000000000"
     ∷ "000C000000000000000000000000000000000000000000000000"
     ∷ "0A00030000000000000000000000000000000000000000000000"
+    ∷ "0C00020000000000000002000000000000000000000000000000"
+    ∷ "0C02000000000000000000000000000000000000000000000000"
     ∷ [])
 
 abbrev pub FrameCases : Type 0
