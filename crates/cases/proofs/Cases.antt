@@ -1,6 +1,7 @@
 -- The cases hold: the checker computes every reply from the definitions.
 use mathlib.Core.Path.{refl}
 use Rattle.basics.specs.Tests.{all, allBelow, anyBelow}
+use Rattle.basics.specs.Listing.{passing}
 use Rattle.basics.specs.Bytes.{littleEndian, bytesOf, over}
 use Rattle.quorum.specs.Sets.{member, used, holds, shares, within, join, minus, remove, full}
 use Rattle.quorum.specs.Configurations.{setAt, readSet, writeSet, usedFirst, someUsed, allWithin, sharesAll, allShare, validity, valid}
@@ -10,6 +11,7 @@ use Rattle.layout.specs.Fields.{copyFrom}
 use Rattle.layout.specs.Soundness.{roundSound, copiesValid, soundness, sound}
 use Rattle.layout.specs.Newest.{newest, byVersion, byGeneration, hears}
 use Rattle.layout.specs.View.{view}
+use Rattle.plan.specs.Plan.{pollsNeeded, putsNeeded}
 use Rattle.layout.specs.Updates.{setOff, setPolled, setPuts, setRound, putData, putConfig, copyBytes, repeated, putCopies}
 use Rattle.rules.specs.Rules.{first, tests, refusals, numberOf}
 use Rattle.rules.specs.Figures.{figuresOf}
@@ -25,5 +27,6 @@ unfolding all allBelow anyBelow littleEndian
     firstPlace orElse firstRead firstWrite placeFigure isPlace
     address tableLength copyFrom roundSound copiesValid soundness sound newest byVersion byGeneration hears view
     bytesOf over setOff setPolled setPuts setRound putData putConfig copyBytes repeated putCopies
+    passing pollsNeeded putsNeeded
     first tests refusals numberOf figuresOf done replyOf after replies table lastOf
 cases = refl

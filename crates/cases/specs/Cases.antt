@@ -1,13 +1,13 @@
 -- The starred cases of document 01, "Trays through the house", the mistakes of "What growers' programs get wrong", the stations of a new table and the
--- house whose sets move, and what holds a round up (document 02, 2026-02 to 2026-04), as one table: on bytes, lists of calls from a lay on, of each of which
--- the last reply is compared.
+-- house whose sets move, what holds a round up and how many polls it will take (document 02, 2026-02 to 2026-05), as one table: on bytes, lists of calls
+-- from a lay on, of each of which the last reply is compared.
 use mathlib.Core.Path.{_≡_}
 use mathlib.Core.List.{List, [], _∷_, _++_}
 use mathlib.Core.Option.{Option, none, some}
 use Prim.Native.Nat.{ℕ}
 use lib.ListN.{replicate}
 use Rattle.layout.specs.Layout.{tableLength}
-use Rattle.rules.specs.Calls.{Call, lay, openRead, openWrite, openChange, poll, put, commit, abandon, link, reach, diagnose}
+use Rattle.rules.specs.Calls.{Call, lay, openRead, openWrite, openChange, poll, put, commit, abandon, link, reach, diagnose, plan}
 use Rattle.rules.specs.Calls.{dataSort, configSort, offState, onState}
 use Rattle.rules.specs.Lists.{replies}
 use Rattle.rules.specs.declared.Reply.{Reply}
@@ -73,6 +73,17 @@ everywhere = round (openChange 0 single) (dataPut 2 ∷ configPut 0 ∷ configPu
 abbrev pub moves : List Call
 moves = round (openChange 0 toOther) (dataPut 2 ∷ dataPut 3 ∷ configPut 0 ∷ configPut 1 ∷ commit ∷ [])
 
+-- a house of five whose first four read, and which the fourth alone writes, changes to its fifth station: "data put 4, configuration put 3". Of polls in
+-- rising number only the fourth finds the change.
+abbrev pub firstFour : List ℕ
+firstFour = side 15 0 0 ++ side 8 0 0
+
+abbrev pub fifth : List ℕ
+fifth = side 16 0 0 ++ side 16 0 0
+
+abbrev pub moveOn : List Call
+moveOn = openChange 0 fifth ∷ poll 0 ∷ poll 1 ∷ poll 2 ∷ poll 3 ∷ dataPut 4 ∷ configPut 3 ∷ commit ∷ []
+
 -- ---- rows: the stations and the configuration of a lay, the calls after it, and what the last of them gets, its number and three figures
 pub record Row : Type 0 where
   pub stations : ℕ
@@ -95,6 +106,10 @@ row calls = unwired (returns 0 ∷ returns 1 ∷ returns 2 ∷ calls)
 -- the house of four, with its stations linked and its sets moved
 abbrev pub moved : List Call → ℕ → ℕ → ℕ → ℕ → Row
 moved calls = house 4 fromPair (returns 0 ∷ returns 1 ∷ returns 2 ∷ returns 3 ∷ moves ++ calls)
+
+-- the house of five, with its stations linked
+abbrev pub five : List Call → ℕ → ℕ → ℕ → ℕ → Row
+five calls = house 5 firstFour (returns 0 ∷ returns 1 ∷ returns 2 ∷ returns 3 ∷ returns 4 ∷ calls)
 
 unfoldable pub table : List Row
 table =
@@ -209,6 +224,37 @@ table =
     ∷ row (round (openChange 0 single) (dataPut 2 ∷ configPut 0 ∷ configPut 1 ∷ diagnose ∷ [])) 0 0 1 1
     -- the station that gave the version, and not the one that gave the generation: 510 is at 1 and 2, and of 0 and 2 only 0 knows the change to 0004
     ∷ row (round (openWrite 0 510) (dataPut 1 ∷ dataPut 2 ∷ commit ∷ changes ++ (openRead 0 ∷ poll 0 ∷ poll 2 ∷ diagnose ∷ []))) 0 0 3 1
+    -- ---- "How many polls a reading will take"
+    -- with all stations on two polls and two puts, as the rows of "Trays through the house" take; and there is no item 1
+    ∷ row (plan 0 ∷ []) 0 2 2 0
+    ∷ row (plan 1 ∷ []) 2 0 0 0
+    -- "15 out of hearing": nobody is on the bus, or one station, which is no pair
+    ∷ unwired (plan 0 ∷ []) 15 0 0 0
+    ∷ unwired (returns 1 ∷ plan 0 ∷ []) 15 0 0 0
+    -- stations off the bus are not counted: {1, 2}; and {0, 3} of the house of four that reads and writes at 3, where with all on it takes four
+    ∷ row (drops 0 ∷ plan 0 ∷ []) 0 2 2 0
+    ∷ house 4 (side 8 0 0 ++ side 8 0 0) (returns 0 ∷ returns 3 ∷ plan 0 ∷ []) 0 2 2 0
+    ∷ house 4 (side 8 0 0 ++ side 8 0 0) (returns 0 ∷ returns 1 ∷ returns 2 ∷ returns 3 ∷ plan 0 ∷ []) 0 4 4 0
+    -- the puts are counted from the same start, also beyond the polls: read {0}, write {0, 1, 2}; and read {0, 1, 2}, write {0}
+    ∷ house 3 (side 1 0 0 ++ side 7 0 0) (returns 0 ∷ returns 1 ∷ returns 2 ∷ plan 0 ∷ []) 0 1 3 0
+    ∷ house 3 (side 7 0 0 ++ side 1 0 0) (returns 0 ∷ returns 1 ∷ returns 2 ∷ plan 0 ∷ []) 0 3 1 0
+    -- "this second figure is 0 if none can": no write set on the bus, which is not 15
+    ∷ house 3 (side 1 0 0 ++ side 7 0 0) (returns 0 ∷ returns 1 ∷ plan 0 ∷ []) 0 1 0 0
+    -- the house whose sets moved: 0 and 1 know that 2 reads, and 2 and 3 write; without both of them nothing is heard, and without 3 nothing is written
+    ∷ moved (plan 0 ∷ []) 0 3 4 0
+    ∷ moved (drops 0 ∷ plan 0 ∷ []) 0 2 3 0
+    ∷ moved (drops 0 ∷ drops 1 ∷ plan 0 ∷ []) 15 0 0 0
+    ∷ moved (drops 3 ∷ plan 0 ∷ []) 0 3 0 0
+    -- a configuration found that changes on the way: four polls would do, but the fourth finds the newer generation, unheard again until the fifth
+    ∷ five (plan 0 ∷ []) 0 4 4 0
+    ∷ five (openRead 0 ∷ poll 0 ∷ poll 1 ∷ poll 2 ∷ poll 3 ∷ []) 0 1 0 0
+    ∷ five (moveOn ++ (plan 0 ∷ [])) 0 5 5 0
+    ∷ five (moveOn ++ (openRead 0 ∷ poll 0 ∷ poll 1 ∷ poll 2 ∷ poll 3 ∷ [])) 0 0 0 0
+    ∷ five (moveOn ++ (openRead 0 ∷ poll 0 ∷ poll 1 ∷ poll 2 ∷ poll 3 ∷ poll 4 ∷ [])) 0 1 0 0
+    -- with station 3 off the others know nothing of it, and are not heard by the old sets either
+    ∷ five (moveOn ++ (drops 3 ∷ plan 0 ∷ [])) 15 0 0 0
+    -- the open round does not matter, whatever it has polled and put
+    ∷ row (round (openWrite 0 510) (dataPut 2 ∷ drops 0 ∷ plan 0 ∷ [])) 0 2 2 0
     ∷ []
 
 -- ---- the replies

@@ -1,2 +1,3 @@
 pub mod Starts
 pub mod Plan
+pub mod OnTheWay
