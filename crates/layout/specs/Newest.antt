@@ -1,5 +1,6 @@
--- What the copies at the stations of a set give. The set is a round's polled set or, for reach, the stations on the bus. Document 01, "The calls": "the
--- newest copy by version gives version and value; the newest by generation gives generation and configuration; on equal numbers the lowest station counts."
+-- What the copies at the stations of a set give. The set is a round's polled set or, for reach and plan, all or the lowest of the stations on the bus. Document
+-- 01, "The calls": "the newest copy by version gives version and value; the newest by generation gives generation and configuration; on equal numbers the
+-- lowest station counts."
 use mathlib.Core.Path.{_≡_}
 use mathlib.Core.Bool.{Bool, true, false, cond}
 use mathlib.Core.Logic.{_↔_}

@@ -15,7 +15,7 @@ use Rattle.layout.specs.Fields.{Copy}
 use Rattle.layout.specs.Newest.{hears}
 use Rattle.layout.proofs.Newer.{by-generation-same, hears-same}
 use Rattle.plan.specs.Starts.{rising, start, firstStart}
-use Rattle.plan.specs.Plan.{pollsNeeded, firstHeard, foundFirst, putsNeeded}
+use Rattle.plan.specs.Plan.{pollsNeeded, heardStart, foundByStart, putsNeeded}
 use Rattle.plan.proofs.Starts.{start-part, start-more, start-whole, never, at-first, before-first, in-order, passes-late}
 
 module _ (copies : ℕ → Copy) (on n : ℕ) where
@@ -60,7 +60,7 @@ module _ (copies : ℕ → Copy) (on n : ℕ) where
   unfolding pollsNeeded
   out-of-hearing = never (λ set. hears copies set n) order hears-nothing
 
-  pub heard-then : 1 ≤ polls → hears copies (firstHeard copies on n) n ≡ true
+  pub heard-then : 1 ≤ polls → hears copies (heardStart copies on n) n ≡ true
   unfolding pollsNeeded
   heard-then = at-first (λ set. hears copies set n) order hears-nothing
 
@@ -69,7 +69,7 @@ module _ (copies : ℕ → Copy) (on n : ℕ) where
   unheard-before = before-first (λ set. hears copies set n) order hears-nothing
 
   -- ---- the puts, by the configuration that those polls find
-  module _ {config : List ℕ} (its : foundFirst copies on n .config ≡ config) where
+  module _ {config : List ℕ} (its : foundByStart copies on n .config ≡ config) where
     figured : puts ≡ placeFigure (firstStart (holdsWrite config) order)
     unfolding putsNeeded
     figured = ap (λ c. placeFigure (firstStart (holdsWrite c) order)) its
@@ -101,4 +101,4 @@ module _ (cs ds : ℕ → Copy) (on n : ℕ) (e : (s : ℕ) → s < n → cs s �
 
   pub puts-same : putsNeeded cs on n ≡ putsNeeded ds on n
   unfolding putsNeeded
-  puts-same = rw (polls-same, by-generation-same cs ds (firstHeard ds on n) n e)
+  puts-same = rw (polls-same, by-generation-same cs ds (heardStart ds on n) n e)

@@ -13,13 +13,31 @@ use borrow.Author.Tests.{eqb-true, eq-eqb, leb-true, leb-false}
 use Rattle.basics.specs.Tests.{Some}
 use Rattle.basics.proofs.Tests.{clash, either, fails, or-left, or-right, or-cases}
 use Rattle.basics.proofs.Listing.{listing}
-use Rattle.quorum.specs.Sets.{member}
-use Rattle.quorum.specs.Orders.{among, joined}
+use Rattle.quorum.specs.Sets.{member, join}
 use Rattle.quorum.specs.Configurations.{placeFigure}
 use Rattle.quorum.specs.Promise.{_⊆_}
 use Rattle.quorum.specs.declared.Place.{Place}
 use Rattle.quorum.proofs.Promise.{promise}
-use Rattle.plan.specs.Starts.{rising, start, firstStart, Starts}
+use Rattle.plan.specs.Starts.{among, joined, rising, start, firstStart, Starts}
+
+-- ---- stations that join one after the other
+or-none : (b : Bool) → b ≡ (b || false)
+or-none true = refl
+or-none false = refl
+
+or-three : (a b c : Bool) → ((a || b) || c) ≡ (a || (b || c))
+or-three true b c = refl
+or-three false b c = refl
+
+member-joined : (order : List ℕ) (a i : ℕ) → ((s : ℕ) → among order s ≡ true → s < 16) → member (joined a order) i ≡ (member a i || among order i)
+member-joined [] a i few = or-none (member a i)
+member-joined (s ∷ order) a i few =
+    member-joined order (join a s) i (λ k m. few k (or-right (eqb k s) (among order k) m))
+    ∙ ap (λ b. b || among order i) (promise .member-join a i s (few s (or-left (eqb s s) (among order s) (eq-eqb s s refl))))
+    ∙ or-three (member a i) (eqb i s) (among order i)
+
+pub member-of : (order : List ℕ) (i : ℕ) → ((s : ℕ) → among order s ≡ true → s < 16) → member (joined 0 order) i ≡ among order i
+member-of order i few = member-joined order 0 i few ∙ ap (λ b. b || among order i) (promise .member-empty i)
 
 -- ---- the stations of a start
 -- among the first k of a list is what stands at a place below k
@@ -53,8 +71,7 @@ module _ (set : ℕ) where
   has k s =
       let low : (i : ℕ) → among (take k order) i ≡ true → i < 16 = λ i m.
       placed k i (among-first order k i .0 m) .0 in
-      let e : member (start order k) s ≡ among (take k order) s = promise .member-joined (take k order) 0 s low
-      ∙ ap (λ b. b || among (take k order) s) (promise .member-empty s) in
+      let e = member-of (take k order) s low in
       (λ m. among-first order k s .0 (sym e ∙ m), λ p. e ∙ among-first order k s .1 p)
 
   -- who stands in the order is in the set

@@ -1,17 +1,28 @@
 -- Stations in rising number, and the starts of that order (document 02, 2026-05: "if the stations on the bus are polled in rising number").
 use mathlib.Core.Path.{_≡_}
-use mathlib.Core.Bool.{Bool, true, false}
-use mathlib.Core.List.{List}
+use mathlib.Core.Bool.{Bool, true, false, _||_}
+use mathlib.Core.List.{List, [], _∷_}
 use mathlib.Core.Logic.{_↔_}
 use Prim.Native.Nat.{ℕ, suc, _≤_, _<_}
+use lib.Dec.{eqb}
 use lib.ListN.{length, take, getD}
 use Rattle.basics.specs.Tests.{Some}
 use Rattle.basics.specs.Listing.{passing, Listing}
-use Rattle.quorum.specs.Sets.{member}
-use Rattle.quorum.specs.Orders.{joined}
+use Rattle.quorum.specs.Sets.{member, join}
 use Rattle.quorum.specs.Configurations.{firstPlace, placeFigure}
 use Rattle.quorum.specs.declared.Place.{Place}
 
+-- ---- stations in an order: a list, who is in it, and the set of them
+abbrev pub among : List ℕ → ℕ → Bool
+among [] s = false
+among (k ∷ rest) s = eqb s k || among rest s
+
+-- the stations of a list join a set, one after the other
+abbrev pub joined : ℕ → List ℕ → ℕ
+joined set [] = set
+joined set (s ∷ rest) = joined (join set s) rest
+
+-- ---- starts
 -- the stations of a set of 16 bits, in rising number
 abbrev pub rising : ℕ → List ℕ
 rising set = passing (member set) 16

@@ -1,6 +1,7 @@
 -- Plan is exact.
 use mathlib.Core.Path.{_≡_, refl, sym, ap, _∙_}
 use mathlib.Core.Bool.{true, false}
+use mathlib.Core.List.{_∷_}
 use mathlib.Core.Logic.{_↔_, _⊎_, inl, inr, ⊎-elim}
 use Prim.Native.Nat.{ℕ, zero, suc, _≤_, _<_}
 use native.Mathlib.Omega.{arith}
@@ -8,37 +9,40 @@ use lib.Dec.{ltb}
 use lib.ListN.{length}
 use lib.Seq.{take-length}
 use borrow.Author.Tests.{ltb-true, ltb-false}
+use Rattle.basics.specs.Listing.{Listing}
 use Rattle.basics.specs.Bytes.{AreBytes}
+use Rattle.quorum.specs.Sets.{member}
 use Rattle.basics.proofs.Tests.{clash, either, fails, and-left, and-right, and-both}
-use Rattle.quorum.specs.Orders.{joined}
+use Rattle.plan.specs.Starts.{joined}
 use Rattle.quorum.specs.Configurations.{writeSet, placeFigure, holdsWrite, valid}
 use Rattle.quorum.specs.Promise.{QuorumIn, _⊆_}
 use Rattle.quorum.proofs.Promise.{promise}
-use Rattle.layout.specs.Fields.{Copy}
+use Rattle.layout.specs.Fields.{Copy, none}
 use Rattle.layout.specs.Newest.{byGeneration, hears}
 use Rattle.layout.specs.Soundness.{sound}
 use Rattle.layout.specs.View.{Table, State, view, onBus}
 use Rattle.layout.proofs.Soundness.{is-sound}
+use Rattle.layout.proofs.Newer.{by-generation}
 use Rattle.plan.specs.Starts.{rising}
-use Rattle.plan.specs.Plan.{startOn, plannedPolls, plannedPuts}
+use Rattle.plan.specs.Plan.{orderOn, lowestOn, startOn, plannedPolls, plannedPuts}
 use Rattle.plan.proofs.Starts.{in-set, start-part, start-more}
 use Rattle.plan.proofs.Plan.{polls-listed, all-started, heard-then, unheard-before, written-from, unwritten}
-use Rattle.rules.specs.Calls.{Call, reach, plan}
+use Rattle.rules.specs.Calls.{Call, openRead, openWrite, commit, reach, plan}
 use Rattle.rules.specs.Passed.{Passable}
 use Rattle.rules.specs.Rules.{numberOf, refusals, tests}
 use Rattle.rules.specs.Figures.{figuresOf}
 use Rattle.rules.specs.Reply.{replyOf, reply, after}
-use Rattle.rules.specs.Lists.{replies}
+use Rattle.rules.specs.Lists.{replies, afterAll}
 use Rattle.rules.specs.Book.{Book, fed}
 use Rattle.rules.specs.Needs.{needs, InHearing}
 use Rattle.rules.specs.Demand2.{HeardBy}
-use Rattle.rules.specs.Steps.{SameCopies, Planned}
+use Rattle.rules.specs.Steps.{SameCopies, Enough, Planned}
 use Rattle.rules.specs.WholeRounds.{Opens, polls, puts}
 use Rattle.rules.proofs.Judged.{numbered}
 use Rattle.rules.proofs.Quorums.{heard-by}
 use Rattle.rules.proofs.Demand1.{reply-figures}
 use Rattle.rules.proofs.Demand3.{after-lists}
-use Rattle.rules.proofs.Steps.{few-on, three, heard-first, plan-step}
+use Rattle.rules.proofs.Steps.{few-on, order-on, three, heard-first, plan-step}
 use Rattle.rules.proofs.Laws.{done-allowed}
 use Rattle.rules.proofs.Alike.{no-round-matters}
 use Rattle.rules.proofs.Asking.{ThoseOn}
@@ -47,7 +51,7 @@ use Rattle.rules.proofs.Copies.{heard-current, heard-grows}
 use Rattle.rules.proofs.WholeRounds.{begun, read-ends, write-ends, change-ends}
 use Rattle.rules.proofs.Reading.{gives-entry, gives-after-abandon}
 use Rattle.rules.proofs.OnTheBus.{allHeard, canWrite, zero-told, write-told, reach-figure}
-use Rattle.plan_exact.specs.PlanExact.{orderOn, lowestOn, HeardAt, NeverHeard, Enough, PlannedRounds, OverLists, PlanExact}
+use Rattle.plan_exact.specs.PlanExact.{FirstHeardAt, NeverHeard, PlannedRounds, OverLists, PlanExact}
 use Rattle.plan_exact.proofs.Rising.{heard-at, never-heard}
 
 any-round : (t u : Table) (i : ℕ) → sound t ≡ true → sound u ≡ true → SameCopies (view t) (view u) → view u .off ≡ view t .off
@@ -78,6 +82,30 @@ module _ (t : Table) (i : ℕ) where
   told : Told number
   unfolding needs
   told = numbered .number-exactly t (plan i) number .0 refl
+
+  -- reach's two needs are its first two
+  refused-as-reach : (k : ℕ) → (k ≡ 1) ⊎ (k ≡ 2) → (number ≡ k) ↔ (reply t (reach i) .number ≡ k)
+  unfolding needs
+  refused-as-reach k which = go told (numbered .number-exactly t (reach i) (reply t (reach i) .number) .0 refl)
+    where
+      far : (k ≡ 0 → ⊥) × (k ≡ 15 → ⊥)
+      far = (λ e. ⊎-elim (λ z. omega arith) (λ z. omega arith) which, λ e. ⊎-elim (λ z. omega arith) (λ z. omega arith) which)
+
+      same : {j : ℕ} → number ≡ j → reply t (reach i) .number ≡ j → (number ≡ k) ↔ (reply t (reach i) .number ≡ k)
+      same a b = (λ e. b ∙ sym a ∙ e, λ e. a ∙ sym b ∙ e)
+
+      go : Told number
+          → ((v .isSound ≡ true → ⊥) × (reply t (reach i) .number ≡ 1))
+          ⊎ ((v .isSound ≡ true) × (((i < v .m → ⊥) × (reply t (reach i) .number ≡ 2)) ⊎ ((i < v .m) × (reply t (reach i) .number ≡ 0))))
+          → (number ≡ k) ↔ (reply t (reach i) .number ≡ k)
+      go (inl x) (inl y) = same (x .1) (y .1)
+      go (inl x) (inr y) = absurd (x .0 (y .0))
+      go (inr x) (inl y) = absurd (y .0 (x .0))
+      go (inr (_, inl x)) (inr (_, inl y)) = same (x .1) (y .1)
+      go (inr (_, inl x)) (inr (_, inr y)) = absurd (x .0 (y .0))
+      go (inr (_, inr x)) (inr (_, inl y)) = absurd (y .0 (x .0))
+      go (inr (_, inr (_, inl x))) (inr (_, inr y)) = (λ e. absurd (far .1 (sym e ∙ x .1)), λ e. absurd (far .0 (sym e ∙ y .1)))
+      go (inr (_, inr (_, inr x))) (inr (_, inr y)) = same (x .1) (y .1)
 
   -- on a sound table that has the item
   no-other : reply t (reach i) .number ≡ 0 → (number ≡ 0) ⊎ (number ≡ 15)
@@ -160,10 +188,10 @@ module _ (t : Table) (i : ℕ) where
         written-from copies (onBus v) (v .n) its k
 
     module _ (bytes : AreBytes t) where
-      hears-planned : (c : Call) → Passable c → Opens c i → reply t c .number ≡ 0 → HeardAt p (replies (after t c) (polls (orderOn v)))
+      hears-planned : (c : Call) → Passable c → Opens c i → reply t c .number ≡ 0 → FirstHeardAt p (replies (after t c) (polls (orderOn v)))
       hears-planned c pass o d = go p refl
         where
-          go : (m : ℕ) → p ≡ m → HeardAt p (replies (after t c) (polls (orderOn v)))
+          go : (m : ℕ) → p ≡ m → FirstHeardAt p (replies (after t c) (polls (orderOn v)))
           go zero z = let l = positive in absurd (omega arith)
           go (suc m) z =
               let b = begun t bytes i c pass o d in
@@ -172,25 +200,35 @@ module _ (t : Table) (i : ℕ) where
               rw z (heard-at v (x .isSound) (is-sound t (x .isSound) .small) (orderOn v) all-on _ (after t c) (x .asking) (x .item) (x .busy) refl refl
               m (omega arith) (λ k l. unheard-before copies (onBus v) (v .n) (suc k) (omega arith)) (rw z at (heard-then copies (onBus v) (v .n) positive)))
 
-      rounds-planned : PlannedRounds t i p q
-      rounds-planned =
-          record {
-            hears = hears-planned;
-            reads = λ k l d. read-ends t bytes i (lowestOn v k) (those-on k) d (heard-last k l);
-            writes = λ j k value l pass d.
-                write-ends t bytes i (lowestOn v j) (those-on j) value pass d (lowestOn v k) (those-on k) (heard-last j l) (enough j k l);
-            changes = λ j k target l pass d. let held = promise .holds-write target (onBus v) in
-                change-ends t bytes i (lowestOn v j) (those-on j) target pass d (orderOn v) (lowestOn v k) all-on (those-on k)
-                {N = QuorumIn (writeSet target) (onBus v) × Enough q k} (heard-last j l)
-                (λ h. let found = holdsWrite (byGeneration copies (startOn v j) (v .n) .config) (startOn v k) in
-                rw (whole (asked .0)) (
-                  λ w. (held .0 (and-left (holdsWrite target (onBus v)) found w), enough j k l h .0 (and-right (holdsWrite target (onBus v)) found w)),
-                  λ w. and-both (holdsWrite target (onBus v)) found (held .1 (w .0)) (enough j k l h .1 (w .1)),
-                ));
-          }
+      -- with no open round a read and a write are opened
+      module _ (idle : v .round .kind ≡ none) where
+        opens-read : reply t (openRead i) .number ≡ 0
+        unfolding needs
+        opens-read = numbered .done-exactly t (openRead i) .1 (asked .0, (asked .1, (idle, tt)))
 
-      rounds : PlannedRounds t i (reply t (plan i) .first) (reply t (plan i) .second)
-      rounds = rw (figures .0, figures .1) rounds-planned
+        opens-write : (value : ℕ) → reply t (openWrite i value) .number ≡ 0
+        unfolding needs
+        opens-write value = numbered .done-exactly t (openWrite i value) .1 (asked .0, (asked .1, (idle, tt)))
+
+        rounds-planned : PlannedRounds t i p q
+        rounds-planned =
+            record {
+              hears = hears-planned;
+              reads = λ j l. read-ends t bytes i (lowestOn v j) (those-on j) opens-read (heard-last j l);
+              writes = λ j k value l pass.
+                  write-ends t bytes i (lowestOn v j) (those-on j) value pass (opens-write value) (lowestOn v k) (those-on k) (heard-last j l) (enough j k l);
+              changes = λ j k target l pass d. let held = promise .holds-write target (onBus v) in
+                  change-ends t bytes i (lowestOn v j) (those-on j) target pass d (orderOn v) (lowestOn v k) all-on (those-on k)
+                  {N = QuorumIn (writeSet target) (onBus v) × Enough q k} (heard-last j l)
+                  (λ h. let found = holdsWrite (byGeneration copies (startOn v j) (v .n) .config) (startOn v k) in
+                  rw (whole (asked .0)) (
+                    λ w. (held .0 (and-left (holdsWrite target (onBus v)) found w), enough j k l h .0 (and-right (holdsWrite target (onBus v)) found w)),
+                    λ w. and-both (holdsWrite target (onBus v)) found (held .1 (w .0)) (enough j k l h .1 (w .1)),
+                  ));
+            }
+
+        rounds : PlannedRounds t i (reply t (plan i) .first) (reply t (plan i) .second)
+        rounds = rw (figures .0, figures .1) rounds-planned
 
 -- ---- 15
 never : (t : Table) (c : Call) (i : ℕ) → AreBytes t → Passable c → Opens c i → reply t c .number ≡ 0 → reply t (plan i) .number ≡ 15
@@ -200,6 +238,18 @@ never t c i bytes pass o d e =
     let x = b .3 in
     never-heard (view t) (x .isSound) (is-sound t (x .isSound) .small) (orderOn (view t)) (all-on t i) _ (after t c) (x .asking) (x .item) (x .busy) refl refl
     (λ k l. unheard-start t i e (suc k))
+
+unread : (t : Table) (i k : ℕ) → AreBytes t → reply t (plan i) .number ≡ 15 → view t .round .kind ≡ none
+    → reply (afterAll t (openRead i ∷ polls (lowestOn (view t) k))) commit .number ≡ 8
+unfolding needs
+unread t i k bytes e idle =
+    let x = out-of-hearing t i e in
+    let opens = numbered .done-exactly t (openRead i) .1 (x .isSound, (x .item, (idle, tt))) in
+    read-ends t bytes i (lowestOn (view t) k) (those-on t i k) opens {H = ⊥} (λ h. clash h (unheard-start t i e k), λ z. absurd z) .unheard .1 (λ z. z)
+
+in-order : (t : Table) → sound t ≡ true → Listing (λ s. (s < view t .n) × (member (view t .off) s ≡ false)) (orderOn (view t))
+unfolding view
+in-order t s = order-on (view t) (is-sound t s .small)
 
 -- ---- a table that follows the book
 module _ (t : Table) (b : Book) (bytes : AreBytes t) (isSound : sound t ≡ true) (inv : Follows (view t) b) where
@@ -238,8 +288,21 @@ module _ (t : Table) (b : Book) (bytes : AreBytes t) (isSound : sound t ≡ true
     all-heard : allHeard now i ≡ true
     all-heard = grows i item _ (onBus now) (start-part (onBus now) (reply t (plan i) .first)) heard-first-polls
 
-    stays-heard : (k : ℕ) → reply t (plan i) .first ≤ k → (g : ℕ) × HeardBy now i (startOn now k) g
-    stays-heard k l = heard-by now i (startOn now k) .0 (grows i item _ (startOn now k) (start-more (onBus now) _ k l) heard-first-polls)
+    -- as many polls as planned, or more
+    module _ (j : ℕ) (l : reply t (plan i) .first ≤ j) where
+      heard-on : hears (now .copies i) (startOn now j) (now .n) ≡ true
+      heard-on = grows i item _ (startOn now j) (start-more (onBus now) _ j l) heard-first-polls
+
+      stays-heard : (g : ℕ) × HeardBy now i (startOn now j) g
+          × ((k : ℕ) → QuorumIn (writeSet (now .copies i g .config)) (startOn now k) ↔ Enough (reply t (plan i) .second) k)
+      stays-heard =
+          let x = heard-by now i (startOn now j) .0 heard-on in
+          let g = x .0 in
+          let found = ap (λ c. c .config) (by-generation (now .copies i) (startOn now j) (now .n) g (x .1 .0)) in
+          let its = rw (figures t i e .0) at (same-config i item _ (startOn now j) heard-first-polls heard-on) ∙ found in
+          let held = promise .holds-write (now .copies i g .config) in
+          let written = written-from (now .copies i) (onBus now) (now .n) its in
+          (g, x .1, λ k. rw (figures t i e .1) (λ w. written k .0 (held (startOn now k) .1 w), λ w. held (startOn now k) .0 (written k .1 w)))
 
     -- the stations on the bus find what those polls find, so that they hold a write set of it exactly if reach says so
     can-write : (1 ≤ reply t (plan i) .second) ↔ (reply t (reach i) .first ≡ 3)
@@ -268,20 +331,13 @@ module _ (t : Table) (b : Book) (bytes : AreBytes t) (isSound : sound t ≡ true
         λ z. ⊎-elim (λ done. clash (all-heard i done) (zero .0 (sym (reached i item) ∙ z))) (λ e. e) (no-other t i d),
       )
 
-  no-set-heard : (i : ℕ) → reply t (plan i) .number ≡ 15 → (set : ℕ) → set ⊆ onBus now → (g : ℕ) → HeardBy now i set g → ⊥
-  no-set-heard i e set inside g x =
-      clash (grows i (out-of-hearing t i e .item) set (onBus now) inside (heard-by now i set .1 (g, x))) (unheard-bus i e)
-
   over-list : OverLists t b
   over-list =
       record {
-        stays-heard = λ i k e. stays-heard i e k;
-        reads-the-book = λ i e. let k = reply t (plan i) .first in
-            gives-entry t b bytes isSound inv i (item i e) (lowestOn now k) (those-on t i k) (heard-first-polls i e);
-        reads-after-abandon = λ i e. let k = reply t (plan i) .first in
-            gives-after-abandon t b bytes isSound inv i (item i e) (lowestOn now k) (those-on t i k) (heard-first-polls i e);
+        stays-heard = λ i j e. stays-heard i e j;
+        reads-the-book = λ i j e l. gives-entry t b bytes isSound inv i (item i e) (lowestOn now j) (those-on t i j) (heard-on i e j l);
+        reads-after-abandon = λ i j e l. gives-after-abandon t b bytes isSound inv i (item i e) (lowestOn now j) (those-on t i j) (heard-on i e j l);
         out-of-reach = out-of-reach;
-        no-set-heard = no-set-heard;
         can-write = can-write;
       }
 
@@ -289,11 +345,14 @@ pub plan-exact : PlanExact
 plan-exact =
     record {
       any-round = any-round;
+      refused-as-reach = refused-as-reach;
       noOther = no-other;
+      order = in-order;
       shows = shows;
       rounds = λ t i b e. rounds t i e b;
-      never-heard = never;
       no-start = λ t i e k g x. out-of-hearing t i e .none-heard (k, g, x);
+      never-heard = never;
+      unread = unread;
       over-lists = after-lists OverLists over-list;
       book-kept = book-kept;
     }

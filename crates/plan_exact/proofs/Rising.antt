@@ -6,7 +6,7 @@ use Prim.Native.Nat.{ℕ, zero, suc, _≤_, _<_}
 use native.Mathlib.Nat.{not-suc-le-zero}
 use native.Mathlib.Omega.{arith}
 use lib.ListN.{length, take}
-use Rattle.quorum.specs.Orders.{joined}
+use Rattle.plan.specs.Starts.{joined}
 use Rattle.quorum.proofs.Promise.{promise}
 use Rattle.layout.specs.Fields.{none, Round}
 use Rattle.layout.specs.Newest.{hears}
@@ -17,14 +17,14 @@ use Rattle.rules.specs.Reply.{after}
 use Rattle.rules.specs.Lists.{replies}
 use Rattle.rules.specs.WholeRounds.{polls}
 use Rattle.rules.proofs.Asking.{ThoseOn, first-on, rest-on, Asking, one-polled}
-use Rattle.plan_exact.specs.PlanExact.{HeardAt, NeverHeard}
+use Rattle.plan_exact.specs.PlanExact.{FirstHeardAt, NeverHeard}
 
 module _ (v : State) (isSound : v .isSound ≡ true) (few : v .n ≤ 16) where
   -- at the place p of the list, and at none before it, the stations polled so far are heard
   pub heard-at : (order : List ℕ) → ThoseOn v order → (r : Round) (u : Table) → Asking v r u
       → r .item < v .m → (r .kind ≡ none → ⊥) → r .dataPuts ≡ 0 → r .configPuts ≡ 0
       → (p : ℕ) → p < length order → ((k : ℕ) → k < p → hears (v .copies (r .item)) (joined (r .polled) (take (suc k) order)) (v .n) ≡ false)
-      → hears (v .copies (r .item)) (joined (r .polled) (take (suc p) order)) (v .n) ≡ true → HeardAt (suc p) (replies u (polls order))
+      → hears (v .copies (r .item)) (joined (r .polled) (take (suc p) order)) (v .n) ≡ true → FirstHeardAt (suc p) (replies u (polls order))
   unfolding replies hears
   heard-at [] on r u a item busy d c p l before e = absurd (not-suc-le-zero l)
   heard-at (s ∷ order) on r u a item busy d c zero l before e =

@@ -21,7 +21,7 @@ use Rattle.table.proofs.Search.{lowest-in, newer-some}
 use Rattle.plan.specs.Starts.{rising, start}
 use Rattle.plan.specs.Plan.{pollsNeeded}
 use Rattle.planning.specs.Planning.{Says}
-use Rattle.planning.specs.declared.Heard.the-variants.{After, Never}
+use Rattle.planning.specs.declared.FirstHeard.the-variants.{After, Never}
 use Rattle.planning.proofs.Walking.{Position, next-below, next-16, above, is-start, NoneUpTo, first-passes, none-at-all}
 
 -- ---- the newest by a key, where a station joins that is above those of the set

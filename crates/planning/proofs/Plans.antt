@@ -14,7 +14,7 @@ use Rattle.layout.specs.Soundness.{sound}
 use Rattle.layout.specs.View.{State, view, onBus}
 use Rattle.layout.proofs.Soundness.{is-sound}
 use Rattle.plan.specs.Starts.{rising, firstStart}
-use Rattle.plan.specs.Plan.{foundFirst, putsNeeded, plannedPolls}
+use Rattle.plan.specs.Plan.{foundByStart, putsNeeded, plannedPolls}
 use Rattle.rules.specs.Calls.{reach, plan}
 use Rattle.rules.specs.Rules.{first, tests, noItem}
 use Rattle.rules.specs.Figures.{figuresOf}
@@ -23,7 +23,7 @@ use Rattle.rules.specs.declared.Reply.{Reply}
 use Rattle.rules.proofs.Steps.{on-bus}
 use Rattle.table.specs.Search.{copiesOf}
 use Rattle.planning.specs.Planning.{Says}
-use Rattle.planning.specs.declared.Heard.the-variants.{After, Never}
+use Rattle.planning.specs.declared.FirstHeard.the-variants.{After, Never}
 
 -- a reply of two figures
 abbrev pub planReply : ℕ → ℕ → Reply
@@ -58,7 +58,7 @@ module _ (t : List ℕ) (s : sound t ≡ true) (i : ℕ) (l : i < items t) {n on
     unfolding view
     heard = let z = rw (a, b) at (e .1) in numbered true (sym (promise .figure-place _ .0 (rw z at (e .0))))
 
-    found : config ≡ foundFirst (copiesOf t n i) on n .config
+    found : config ≡ foundByStart (copiesOf t n i) on n .config
     found = c ∙ ap (λ x. x .config) (ap (copyFrom t) q ∙ sym (e .3))
 
     puts-found : puts ≡ placeFigure (putsNeeded (copiesOf t n i) on n)

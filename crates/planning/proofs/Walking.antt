@@ -13,7 +13,7 @@ use Rattle.basics.specs.Listing.{passing}
 use Rattle.basics.proofs.Tests.{clash, either, or-cases}
 use Rattle.basics.proofs.Listing.{passing-few}
 use Rattle.quorum.specs.Sets.{member, within, join, remove, lowest}
-use Rattle.quorum.specs.Orders.{joined}
+use Rattle.plan.specs.Starts.{joined}
 use Rattle.quorum.specs.Configurations.{placeFigure}
 use Rattle.quorum.specs.Promise.{_⊆_}
 use Rattle.quorum.proofs.Promise.{promise}

@@ -3,14 +3,14 @@ use mathlib.Core.Path.{_≡_}
 use mathlib.Core.List.{List}
 use Prim.Native.Nat.{ℕ, _≤_, _<_}
 use Rattle.quorum.specs.Configurations.{placeFigure}
-use Rattle.plan.specs.Plan.{pollsNeeded, foundFirst}
+use Rattle.plan.specs.Plan.{pollsNeeded, foundByStart}
 use Rattle.table.specs.Search.{copiesOf}
-use Rattle.planning.specs.declared.Heard.{Heard}
-use Rattle.planning.specs.declared.Heard.the-variants.{After, Never}
+use Rattle.planning.specs.declared.FirstHeard.{FirstHeard}
+use Rattle.planning.specs.declared.FirstHeard.the-variants.{After, Never}
 
 -- what the code's enum says of an item's copies and the stations on the bus: after so many polls a round is first heard, and the copy at station g
 -- gives the configuration found; or no start is heard
-abbrev pub Says : List ℕ → ℕ → ℕ → ℕ → Heard → Type 0
+abbrev pub Says : List ℕ → ℕ → ℕ → ℕ → FirstHeard → Type 0
 Says t n item on (After polls g) =
-    (1 ≤ polls) × (polls ≡ placeFigure (pollsNeeded (copiesOf t n item) on n)) × (g < n) × (foundFirst (copiesOf t n item) on n ≡ copiesOf t n item g)
+    (1 ≤ polls) × (polls ≡ placeFigure (pollsNeeded (copiesOf t n item) on n)) × (g < n) × (foundByStart (copiesOf t n item) on n ≡ copiesOf t n item g)
 Says t n item on Never = placeFigure (pollsNeeded (copiesOf t n item) on n) ≡ 0

@@ -21,13 +21,13 @@ use table::head::stations;
 use table::newest::newer_of;
 
 // After how many polls a round is first heard, and the station whose copy then gives the configuration found.
-pub enum Heard {
+pub enum FirstHeard {
     After(u64, usize),
     Never,
 }
 
 // The first start of the rising order that is heard.
-fn first_heard(t: &[u8], n: usize, item: usize, on: u16) -> Heard
+fn first_heard(t: &[u8], n: usize, item: usize, on: u16) -> FirstHeard
     requires { ⌜ InTable (now t) n item × (within n on ≡ true) ⌝ }
     ensures { λ r. ⌜ Says (now (t .entry)) n item on r ⌝ }
 {
@@ -42,10 +42,10 @@ fn first_heard(t: &[u8], n: usize, item: usize, on: u16) -> Heard
         polled = sets::with_station(polled, s);
         g = newer_of(t, n, item, g, s);
         if sets::holds_read_set(config_at(t, address(n, item, g)), polled) {
-            return Heard::After(polls, g);
+            return FirstHeard::After(polls, g);
         }
     }
-    Heard::Never
+    FirstHeard::Never
 }
 
 // How many stations, from the start of the rising order, hold a write set of the configuration; 0 where all of them do not.
@@ -79,7 +79,7 @@ pub fn plan_on(t: &[u8], i: u64) -> Reply
     let n = stations(t);
     let item = i as usize;
     let on = on_bus(t);
-    let Heard::After(polls, g) = first_heard(t, n, item, on) else {
+    let FirstHeard::After(polls, g) = first_heard(t, n, item, on) else {
         return plain(OUT_OF_HEARING);
     };
     Reply {

@@ -1,7 +1,6 @@
 -- Station sets by their members.
 use mathlib.Core.Path.{_≡_, refl, sym, ap, _∙_}
 use mathlib.Core.Bool.{Bool, true, false, not, _&&_, _||_}
-use mathlib.Core.List.{List, [], _∷_}
 use Prim.Native.Nat.{ℕ, zero, suc, _+_, _-_, _*_, _/_, _%_, _^_, _≤_, _<_, min, max}
 use mathlib.Core.Logic.{_↔_}
 use native.Mathlib.Nat.{not-suc-le-zero, div-one, zero-div, min-eq-left}
@@ -14,7 +13,6 @@ use lib.Bits.{bitAnd, bitOr, and-step, or-step, and-le-l, or-lt, and-self, and-z
 use lib.Count.{trailingZeros, under}
 use borrow.Author.Tests.{ltb-true, lt-ltb, le-ltb, eqb-true, eqb-false, eq-eqb, ne-eqb, not-true}
 use Rattle.quorum.specs.Sets.{member, used, holds, shares, within, join, unite, minus, remove, lowest, full}
-use Rattle.quorum.specs.Orders.{among, joined}
 use Rattle.basics.proofs.Tests.{same-test, and-left, and-right, and-both, or-left, or-right, or-cases, by-cases, clash, either}
 
 -- ---- station 0, and the stations above it
@@ -261,22 +259,6 @@ used-member a = (
 pub member-join : (a i k : ℕ) → k < 16 → member (join a k) i ≡ (member a i || eqb i k)
 unfolding join
 member-join a i k l = rw (lt-ltb _ _ l, member-or i a (2 ^ k), member-one i k)
-
--- stations that join one after the other
-or-none : (b : Bool) → b ≡ (b || false)
-or-none true = refl
-or-none false = refl
-
-or-three : (a b c : Bool) → ((a || b) || c) ≡ (a || (b || c))
-or-three true b c = refl
-or-three false b c = refl
-
-pub member-joined : (order : List ℕ) (a i : ℕ) → ((s : ℕ) → among order s ≡ true → s < 16) → member (joined a order) i ≡ (member a i || among order i)
-member-joined [] a i few = or-none (member a i)
-member-joined (s ∷ order) a i few =
-    member-joined order (join a s) i (λ k m. few k (or-right (eqb k s) (among order k) m))
-    ∙ ap (λ b. b || among order i) (member-join a i s (few s (or-left (eqb s s) (among order s) (eq-eqb s s refl))))
-    ∙ or-three (member a i) (eqb i s) (among order i)
 
 pub member-full : (n i : ℕ) → n ≤ 16 → member (full n) i ≡ ltb i n
 unfolding full

@@ -15,7 +15,7 @@ use Rattle.quorum.specs.Configurations.{firstRead, firstWrite, isPlace, 
 use Rattle.quorum.specs.Promise.{Promise, _⊆_, QuorumIn, FirstIn, Side}
 use Rattle.quorum.specs.declared.Place.the-variants.{At, Nowhere}
 use Rattle.basics.proofs.Tests.{clash, fails, same-test, either}
-use Rattle.quorum.proofs.Members.{member-empty, member-join, member-joined, member-or, member-minus, member-remove, member-full, same-members}
+use Rattle.quorum.proofs.Members.{member-empty, member-join, member-or, member-minus, member-remove, member-full, same-members}
 use Rattle.quorum.proofs.Members.{holds-member, member-holds, shares-members, used-member, within-members, within-join, within-unite, within-minus}
 use Rattle.quorum.proofs.Members.{lowest-member, below-lowest, remove-less, without-lowest}
 use Rattle.quorum.proofs.Validity.{valid-facts, facts-valid, first-used, place-lies, lies-place}
@@ -116,7 +116,6 @@ promise =
       short-write = λ c set h. short (writeSet c) set (λ k. no-set c (8 + k) h);
       member-empty = member-empty;
       member-join = member-join;
-      member-joined = member-joined;
       member-unite = λ a b i. member-or i a b;
       member-minus = λ a b i. member-minus i a b;
       member-remove = λ a i k. member-remove i k a;

@@ -1,4 +1,3 @@
 pub mod Sets
-pub mod Orders
 pub mod Configurations
 pub mod Promise

@@ -11,7 +11,6 @@ use lib.ListN.{length}
 use lib.Bits.{bitAnd}
 use Rattle.basics.specs.Tests.{Some}
 use Rattle.quorum.specs.Sets.{member, used, holds, shares, within, join, unite, minus, remove, lowest, full}
-use Rattle.quorum.specs.Orders.{among, joined}
 use Rattle.quorum.specs.Configurations.{configSize, readSet, writeSet, valid, firstPlace}
 use Rattle.quorum.specs.Configurations.{firstRead, firstWrite, placeFigure, isPlace, holdsRead, holdsWrite}
 use Rattle.quorum.specs.declared.Place.{Place}
@@ -67,7 +66,7 @@ pub record Promise : Type 0 where
   pub all-read : (n : ℕ) (c : List ℕ) → valid n c ≡ true → holdsRead c (full n) ≡ true
   pub all-write : (n : ℕ) (c : List ℕ) → valid n c ≡ true → holdsWrite c (full n) ≡ true
   -- ---- places
-  -- the first place below a bound of which a test holds, and that there is none
+  -- the first place below a bound of which a test holds; that there is none; and tests that agree below the bound have the same
   pub first-exactly : (p : ℕ → Bool) (n k : ℕ) → (firstPlace p n ≡ At k) ↔ ((k < n) × (p k ≡ true) × ((j : ℕ) → j < k → p j ≡ false))
   pub first-nowhere : (p : ℕ → Bool) (n : ℕ) → (firstPlace p n ≡ Nowhere) ↔ ((k : ℕ) → k < n → p k ≡ false)
   pub first-same : (p q : ℕ → Bool) (n : ℕ) → ((k : ℕ) → k < n → p k ≡ q k) → firstPlace p n ≡ firstPlace q n
@@ -95,7 +94,6 @@ pub record Promise : Type 0 where
   -- ---- members
   pub member-empty : (i : ℕ) → member 0 i ≡ false
   pub member-join : (a i k : ℕ) → k < 16 → member (join a k) i ≡ (member a i || eqb i k)
-  pub member-joined : (order : List ℕ) (a i : ℕ) → ((s : ℕ) → among order s ≡ true → s < 16) → member (joined a order) i ≡ (member a i || among order i)
   pub member-unite : (a b i : ℕ) → member (unite a b) i ≡ (member a i || member b i)
   pub member-minus : (a b i : ℕ) → member (minus a b) i ≡ (member a i && not (member b i))
   pub member-remove : (a i k : ℕ) → member (remove a k) i ≡ (member a i && not (eqb i k))

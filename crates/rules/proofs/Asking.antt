@@ -10,7 +10,7 @@ use borrow.Author.Tests.{eq-eqb}
 use Rattle.basics.specs.Bytes.{AreBytes}
 use Rattle.basics.proofs.Tests.{or-left, or-right}
 use Rattle.quorum.specs.Sets.{member, join}
-use Rattle.quorum.specs.Orders.{among, joined}
+use Rattle.plan.specs.Starts.{among, joined}
 use Rattle.quorum.specs.Configurations.{placeFigure}
 use Rattle.layout.specs.Fields.{Kind, none, read, write, change, Round}
 use Rattle.layout.specs.Newest.{heardPlace}

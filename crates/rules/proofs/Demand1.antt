@@ -13,7 +13,7 @@ use Rattle.rules.specs.Rules.{numberOf}
 use Rattle.rules.specs.Figures.{Figures, figuresOf, noFigures}
 use Rattle.rules.specs.Reply.{replyOf, reply, after, answer}
 use Rattle.rules.specs.Needs.{needs}
-use Rattle.rules.specs.Demand1.{ZeroFigures, HasFigures, NumberOf}
+use Rattle.rules.specs.Demand1.{ZeroFigures, HasFigures, ListedNumber}
 use Rattle.rules.specs.declared.Reply.{Reply}
 use Rattle.rules.proofs.Chains.{gets-listed}
 use Rattle.rules.proofs.Judged.{judged, number-gets}
@@ -54,7 +54,7 @@ pub other-calls-have-no-figures : (t : List ℕ) (c : Call) → (HasFigures c �
 unfolding replyOf
 other-calls-have-no-figures t c h = rw (without-figures (view t) c h) (no-figures (numberOf (view t) c))
 
-pub number-is-listed : (t : List ℕ) (c : Call) → NumberOf c (reply t c .number)
+pub number-is-listed : (t : List ℕ) (c : Call) → ListedNumber c (reply t c .number)
 unfolding replyOf
 number-is-listed t c =
-    let v = view t in gets-listed (NumberOf c) (inl (omega arith)) (needs v c) (judged v c .listed) (numberOf v c) (number-gets v c (numberOf v c) .0 refl)
+    let v = view t in gets-listed (ListedNumber c) (inl (omega arith)) (needs v c) (judged v c .listed) (numberOf v c) (number-gets v c (numberOf v c) .0 refl)

@@ -21,7 +21,7 @@ use Rattle.rules.specs.Calls.{isLay, isData, isConfigSort}
 use Rattle.rules.specs.Rules.{first, tests, refusals, numberOf, idle, wrongPut, spentAtPut}
 use Rattle.rules.specs.Figures.{figuresOf, noFigures}
 use Rattle.rules.specs.Reply.{replyOf}
-use Rattle.rules.specs.Demand1.{HasFigures, of-poll, of-commit, of-reach, of-diagnose, of-plan, NumberOf}
+use Rattle.rules.specs.Demand1.{HasFigures, of-poll, of-commit, of-reach, of-diagnose, of-plan, ListedNumber}
 use Rattle.rules.specs.Demand2.{Found}
 use Rattle.rules.specs.Needs.{Gets, numbers, Rise, RightPut, SpentAtPut, InHearing, needs, Allowed, Numbers}
 use Rattle.rules.proofs.Chains.{Decides, Listed, first-fails, first-applies, exactly, gets-zero, gets-fails, gets-lowest}
@@ -84,7 +84,7 @@ module _ (v : State) where
 
   pub record Judged (c : Call) : Type 0 where
     pub decided : Decides (refusals v c) (needs v c)
-    pub listed : Listed (NumberOf c) (numbers (needs v c))
+    pub listed : Listed (ListedNumber c) (numbers (needs v c))
     pub rising : isLay c ≡ false → Rise 0 (numbers (needs v c))
     pub figures : HasFigures c ⊎ (figuresOf v c ≡ noFigures)
     pub lay? : IsLay c ⊎ (isLay c ≡ false)
@@ -273,10 +273,10 @@ module _ (v : State) where
   number-gets c k = exactly (refusals v c) (needs v c) (judged c .decided) k
 
   pub allowed : (c : Call) → numberOf v c ≡ 0 → Allowed v c
-  allowed c e = gets-zero (NumberOf c) (needs v c) (judged c .listed) .0 (number-gets c 0 .0 e)
+  allowed c e = gets-zero (ListedNumber c) (needs v c) (judged c .listed) .0 (number-gets c 0 .0 e)
 
   pub is-done : (c : Call) → Allowed v c → numberOf v c ≡ 0
-  is-done c a = number-gets c 0 .1 (gets-zero (NumberOf c) (needs v c) (judged c .listed) .1 a)
+  is-done c a = number-gets c 0 .1 (gets-zero (ListedNumber c) (needs v c) (judged c .listed) .1 a)
 
 -- ---- soundness is asked once: of a lay never, of any other call first
 module _ (v : State) (c : Call) where

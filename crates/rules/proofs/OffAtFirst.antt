@@ -2,7 +2,7 @@
 use mathlib.Core.Path.{_≡_, refl, sym, ap, _∙_}
 use mathlib.Core.Bool.{Bool, true, false, not, cond, _&&_, _||_}
 use mathlib.Core.List.{List, [], _∷_}
-use mathlib.Core.Logic.{_↔_, _⊎_, inr, ⊎-elim}
+use mathlib.Core.Logic.{_↔_, _⊎_, inl, inr, ⊎-elim}
 use Prim.Native.Nat.{ℕ, zero, suc, _+_, _≤_, _<_}
 use native.Mathlib.Omega.{arith}
 use lib.Dec.{eqb, ltb}
@@ -19,6 +19,7 @@ use Rattle.layout.specs.Updates.{setOff, laid}
 use Rattle.layout.proofs.Fields.{off-only, off-round, off-bytes}
 use Rattle.layout.proofs.Again.{off-over, own-off, own-puts}
 use Rattle.layout.proofs.Soundness.{is-sound, sound-head}
+use Rattle.plan.proofs.Starts.{start-part}
 use Rattle.rules.specs.Calls.{Call, lay, openRead, openWrite, openChange, poll, put, commit, abandon, link, reach, diagnose, plan}
 use Rattle.rules.specs.Calls.{dataSort, configSort, onState}
 use Rattle.rules.specs.Passed.{Passable}
@@ -26,13 +27,13 @@ use Rattle.rules.specs.Rules.{first, tests, readingOver, wrongPut, spent
 use Rattle.rules.specs.Reply.{replyOf, reply, after}
 use Rattle.rules.specs.After.{done}
 use Rattle.rules.specs.Lists.{replies, afterAll, AllPassable}
-use Rattle.rules.specs.Needs.{needs, Allowed}
+use Rattle.rules.specs.Needs.{needs, Allowed, InHearing}
 use Rattle.rules.specs.Demand1.{ZeroFigures}
 use Rattle.rules.specs.OffAtFirst.{onAfter, onAfterAll, Bus, links, OffAtFirst}
 use Rattle.rules.proofs.Judged.{numbered, a-round, at-station, sound-number}
 use Rattle.rules.proofs.Demand1.{refusal-changes-nothing, reply-figures}
 use Rattle.rules.proofs.States.{next}
-use Rattle.rules.proofs.Steps.{reach-step}
+use Rattle.rules.proofs.Steps.{on-bus, reach-step}
 use Rattle.rules.proofs.Laws.{done-after, done-allowed, done-step, next-view, bytes-kept}
 use Rattle.rules.proofs.Kept.{after-sound, stays-sound}
 
@@ -182,6 +183,16 @@ module _ (t : Table) (on : ℕ → Bool) (f : Settled t on) where
       let r = reach-step (view t) i (is-sound t asked) (reply t (reach i)) (reply-figures t (reach i) e) in
       (e, (r .unheard .1 (λ g h. none-held none-on _ (onBus (view t)) (r .isOn) (h .1)), r .noOther .1, r .noOther .2))
 
+  -- nor is there a station in a start
+  out-of-hearing : NoneOn → (i : ℕ) → i < view t .m → reply t (plan i) .number ≡ 15
+  unfolding needs
+  out-of-hearing none-on i l = numbered .number-exactly t (plan i) 15 .1 (inr (asked, inr (l, inl (no-start, refl))))
+    where
+      no-start : InHearing (view t) i → ⊥
+      no-start (k, g, h) =
+          let x = on-bus (view t) (is-sound t asked .small) g .0 (start-part (onBus (view t)) k g (h .0 .inSet)) in
+          clash (rw (none-on g (x .0)) at (f .offBut g (x .0))) (x .1)
+
   bus : Bus t on
   bus =
       record {
@@ -189,6 +200,7 @@ module _ (t : Table) (on : ℕ → Bool) (f : Settled t on) where
         polls = polls;
         puts = puts;
         reaches = reached;
+        plans = out-of-hearing;
       }
 
 -- ---- a link call per station

@@ -1,6 +1,6 @@
 -- Rounds that poll all stations on the bus, and have puts at them, get what reach's figure says: on every table.
-use mathlib.Core.Path.{_≡_, refl, sym, ap, _∙_}
-use mathlib.Core.Bool.{Bool, true, false, _||_}
+use mathlib.Core.Path.{_≡_, refl, sym, _∙_}
+use mathlib.Core.Bool.{Bool, true, false}
 use mathlib.Core.List.{List, _∷_, _++_}
 use mathlib.Core.Logic.{_↔_, inl, inr, ⊎-elim}
 use Prim.Native.Nat.{ℕ, _≤_, _<_}
@@ -8,7 +8,8 @@ use native.Mathlib.Omega.{arith}
 use Rattle.basics.specs.Bytes.{AreBytes}
 use Rattle.basics.proofs.Tests.{clash, and-left, and-right, and-both}
 use Rattle.quorum.specs.Sets.{member}
-use Rattle.quorum.specs.Orders.{among, joined}
+use Rattle.plan.specs.Starts.{among, joined}
+use Rattle.plan.proofs.Starts.{member-of}
 use Rattle.quorum.specs.Promise.{QuorumIn}
 use Rattle.quorum.specs.Configurations.{writeSet, firstRead, holdsWrite}
 use Rattle.quorum.proofs.Promise.{promise}
@@ -21,7 +22,7 @@ use Rattle.rules.specs.Figures.{figuresOf}
 use Rattle.rules.specs.Reply.{reply, after}
 use Rattle.rules.specs.Lists.{replies, afterAll}
 use Rattle.rules.specs.Needs.{needs}
-use Rattle.rules.specs.WholeRounds.{Opens, of-read, of-write, of-change, polls, puts, Closes, SpentAt}
+use Rattle.rules.specs.WholeRounds.{Opens, of-read, of-write, of-change, polls, puts, Closes, SpentAmong}
 use Rattle.rules.specs.ReachExact.{AllOn, Readable, PollsSay}
 use Rattle.rules.proofs.Judged.{numbered}
 use Rattle.rules.proofs.Demand1.{reply-figures}
@@ -34,8 +35,7 @@ use Rattle.rules.proofs.WholeRounds.{polled, begun, read-ends, write-en
 pub all-joined : (v : State) → v .n ≤ 16 → (order : List ℕ) → AllOn v order → joined 0 order ≡ onBus v
 all-joined v few order all =
     let low : (s : ℕ) → among order s ≡ true → s < 16 = λ s m. let x = on-bus v few s .0 (sym (all s) ∙ m) .0 in omega arith in
-    let same : (i : ℕ) → member (joined 0 order) i ≡ member (onBus v) i = λ i.
-    promise .member-joined order 0 i low ∙ ap (λ b. b || among order i) (promise .member-empty i) ∙ all i in
+    let same : (i : ℕ) → member (joined 0 order) i ≡ member (onBus v) i = λ i. member-of order i low ∙ all i in
     promise .same-members (joined 0 order) (onBus v) (λ i m. sym (same i) ∙ m) (λ i m. same i ∙ m)
 
 -- ---- what the figure's two tests say
@@ -124,7 +124,7 @@ module _ (t : Table) (bytes : AreBytes t) (i : ℕ) where
   pub exact-writes : (value : ℕ) (p : Passable (openWrite i value)) (e : reply t (openWrite i value) .number ≡ 0) (order places : List ℕ)
       → AllOn v order → AllOn v places
       → Closes (reply (afterAll t (openWrite i value ∷ polls order ++ puts dataSort places)) commit .number) (Readable figure)
-      (SpentAt (λ c. c .version) v i on) (figure ≡ 3)
+      (SpentAmong (λ c. c .version) v i on) (figure ≡ 3)
   exact-writes value p e order places all there =
       let few = is-sound t (begun t bytes i (openWrite i value) p of-write e .3 .isSound) .small in
       let closes = write-ends t bytes i order (λ s m. sym (all s) ∙ m) value p e places (λ s m. sym (there s) ∙ m) {N = figure ≡ 3}
@@ -135,7 +135,7 @@ module _ (t : Table) (bytes : AreBytes t) (i : ℕ) where
   pub exact-changes : (target : List ℕ) (p : Passable (openChange i target)) (e : reply t (openChange i target) .number ≡ 0) (order places others : List ℕ)
       → AllOn v order → AllOn v places → AllOn v others
       → Closes (reply (afterAll t (openChange i target ∷ polls order ++ (puts dataSort places ++ puts configSort others))) commit .number) (Readable figure)
-      (SpentAt (λ c. c .generation) v i on) ((figure ≡ 3) × QuorumIn (writeSet target) on)
+      (SpentAmong (λ c. c .generation) v i on) ((figure ≡ 3) × QuorumIn (writeSet target) on)
   exact-changes target p e order places others all there elsewhere =
       let few = is-sound t (begun t bytes i (openChange i target) p of-change e .3 .isSound) .small in
       let held = promise .holds-write target on in

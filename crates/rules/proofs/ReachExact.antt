@@ -8,7 +8,7 @@ use Prim.Native.Nat.{ℕ, zero, suc, _<_}
 use native.Mathlib.Omega.{arith}
 use Rattle.basics.specs.Bytes.{AreBytes}
 use Rattle.basics.proofs.Tests.{clash, fails}
-use Rattle.quorum.specs.Orders.{joined}
+use Rattle.plan.specs.Starts.{joined}
 use Rattle.quorum.specs.Configurations.{writeSet, valid}
 use Rattle.quorum.specs.Promise.{QuorumIn, _⊆_}
 use Rattle.quorum.proofs.Promise.{promise}

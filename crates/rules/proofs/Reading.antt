@@ -4,7 +4,7 @@ use mathlib.Core.Bool.{true}
 use mathlib.Core.List.{List, _∷_}
 use Prim.Native.Nat.{ℕ, _<_}
 use Rattle.basics.specs.Bytes.{AreBytes}
-use Rattle.quorum.specs.Orders.{joined}
+use Rattle.plan.specs.Starts.{joined}
 use Rattle.layout.specs.Fields.{none}
 use Rattle.layout.specs.Newest.{hears}
 use Rattle.layout.specs.Soundness.{sound}

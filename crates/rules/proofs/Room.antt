@@ -17,7 +17,7 @@ use Rattle.rules.specs.Figures.{figuresOf, noFigures}
 use Rattle.rules.specs.Reply.{replyOf, reply}
 use Rattle.rules.specs.Passed.{Word}
 use Rattle.rules.specs.Needs.{Allowed, needs}
-use Rattle.rules.specs.Demand1.{NumberOf, HasFigures, of-poll, of-commit, of-reach, of-diagnose, of-plan}
+use Rattle.rules.specs.Demand1.{ListedNumber, HasFigures, of-poll, of-commit, of-reach, of-diagnose, of-plan}
 use Rattle.rules.proofs.Judged.{judged}
 use Rattle.rules.proofs.Views.{Fit, closing-fits}
 use Rattle.rules.proofs.Laws.{commit-heard, commit-unspent, done-allowed}
@@ -29,7 +29,7 @@ at-most-3 true false = omega arith
 at-most-3 false b = omega arith
 
 -- commit gets none of the numbers that requests gave to other calls
-commit-listed : {k : ℕ} → NumberOf commit k → k ≤ 11
+commit-listed : {k : ℕ} → ListedNumber commit k → k ≤ 11
 commit-listed (inl l) = l
 commit-listed (inr p) = let z : _≡_ {A = ℕ} 0 1 = cc (p .1) in absurd (omega arith)
 

@@ -7,6 +7,8 @@ use Prim.Native.Nat.{ℕ, _≤_, _<_}
 use native.Mathlib.Omega.{arith}
 use lib.Dec.{ltb}
 use borrow.Author.Tests.{eq-eqb, ne-eqb, lt-ltb, ltb-true, not-true}
+use Rattle.basics.specs.Listing.{Listing}
+use Rattle.basics.proofs.Listing.{same-listing, listing}
 use Rattle.basics.proofs.Tests.{clash, fails, and-left, and-right, and-both}
 use Rattle.quorum.specs.Sets.{member, join, remove, full}
 use Rattle.quorum.specs.Promise.{QuorumIn}
@@ -22,7 +24,7 @@ use Rattle.layout.proofs.Soundness.{StateSound}
 use Rattle.layout.proofs.Held.{withOff, withRound}
 use Rattle.layout.proofs.Newer.{station-shown, none-shown, by-generation, place-same}
 use Rattle.layout.proofs.Stored.{stored}
-use Rattle.plan.specs.Plan.{startOn, plannedPolls}
+use Rattle.plan.specs.Plan.{orderOn, startOn, plannedPolls}
 use Rattle.plan.proofs.Plan.{in-hearing, heard-then, unheard-before, written-from, unwritten}
 use Rattle.rules.specs.Calls.{lay, poll, put, commit, link, reach, diagnose, plan}
 use Rattle.rules.specs.Figures.{figuresOf, closing}
@@ -206,6 +208,10 @@ on-bus v few s =
 pub few-on : (v : State) → v .n ≤ 16 → (s : ℕ) → member (onBus v) s ≡ true → s < 16
 few-on v few s m = let x = on-bus v few s .0 m .0 in omega arith
 
+pub order-on : (v : State) → v .n ≤ 16 → Listing (λ s. (s < v .n) × (member (v .off) s ≡ false)) (orderOn v)
+order-on v few =
+    same-listing _ _ _ (λ s. (λ p. on-bus v few s .0 (p .1), λ q. let m = on-bus v few s .1 q in (few-on v few s m, m))) (listing (member (onBus v)) 16)
+
 module _ (v : State) (i : ℕ) (f : StateSound v) where
   pub reach-step : (r : Reply) → Shows r (figuresOf v (reach i)) → Reached v i r
   unfolding figuresOf
@@ -255,6 +261,7 @@ module _ (v : State) (i : ℕ) (f : StateSound v) (h : InHearing v i) where
       let its = ap (λ c. c .config) (by-generation copies polled (v .n) g (first .1 .0)) in
       let config = v .copies i g .config in
       record {
+        order = order-on v (f .small);
         g = g;
         heard = rw (q .0) (first .1);
         fewest = λ k l s x. clash (heard-by v i (startOn v k) .1 (s, x)) (unheard-before copies on (v .n) k (rw (q .0) at l));

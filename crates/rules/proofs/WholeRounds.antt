@@ -1,6 +1,6 @@
 -- Whole rounds at stations on the bus: how the commit ends, by the stations polled and those with puts.
 use mathlib.Core.Path.{_≡_, refl, sym, ap, _∙_}
-use mathlib.Core.Bool.{Bool, true, false, not, cond, _&&_, _||_}
+use mathlib.Core.Bool.{Bool, true, false, not, cond, _&&_}
 use mathlib.Core.List.{List, [], _∷_, _++_}
 use mathlib.Core.Logic.{_↔_, inl, inr}
 use Prim.Native.Nat.{ℕ, _-_, _^_, _<_, _≤_}
@@ -8,7 +8,8 @@ use native.Mathlib.Omega.{arith}
 use borrow.Author.Tests.{eqb-true, eq-eqb}
 use Rattle.basics.specs.Bytes.{AreBytes}
 use Rattle.basics.proofs.Tests.{clash}
-use Rattle.quorum.specs.Orders.{among, joined}
+use Rattle.plan.specs.Starts.{among, joined}
+use Rattle.plan.proofs.Starts.{member-of}
 use Rattle.quorum.specs.Promise.{_⊆_}
 use Rattle.quorum.specs.Configurations.{firstRead, holdsWrite}
 use Rattle.quorum.proofs.Promise.{promise}
@@ -29,7 +30,7 @@ use Rattle.rules.specs.Figures.{figuresOf, closing}
 use Rattle.rules.specs.Reply.{replyOf, reply, after}
 use Rattle.rules.specs.Lists.{afterAll}
 use Rattle.rules.specs.Needs.{needs}
-use Rattle.rules.specs.WholeRounds.{Opens, of-read, of-write, of-change, polls, puts, Closes, SpentAt}
+use Rattle.rules.specs.WholeRounds.{Opens, of-read, of-write, of-change, polls, puts, Closes, SpentAmong}
 use Rattle.rules.proofs.Judged.{a-round}
 use Rattle.rules.proofs.Demand1.{Shows}
 use Rattle.rules.proofs.Steps.{on-bus}
@@ -80,7 +81,7 @@ closes-told true false false hears spends writes =
 pub joined-on : (v : State) → v .n ≤ 16 → (order : List ℕ) → ThoseOn v order → joined 0 order ⊆ onBus v
 joined-on v few order on s m =
     let low : (k : ℕ) → among order k ≡ true → k < 16 = λ k h. let x = on-bus v few k .0 (on k h) .0 in omega arith in
-    let e = promise .member-joined order 0 s low ∙ ap (λ b. b || among order s) (promise .member-empty s) in on s (sym e ∙ m)
+    on s (sym (member-of order s low) ∙ m)
 
 -- ---- a round opened on an item of a table
 module _ (t : Table) (bytes : AreBytes t) (isSound : view t .isSound ≡ true) (i : ℕ) (item : i < view t .m) where
@@ -95,7 +96,7 @@ module _ (t : Table) (bytes : AreBytes t) (isSound : view t .isSound ≡ true) (
 
   -- the last number of a counter is the newest of some stations on the bus exactly if a copy of theirs has it
   spent-at : (counter : Copy → ℕ) (set b : ℕ) → set ⊆ onBus v → counter (copies b) < 2 ^ 64 → IsNewest (λ s. counter (copies s)) set (v .n) b
-      → (last (counter (copies b)) ≡ true) ↔ SpentAt counter v i set
+      → (last (counter (copies b)) ≡ true) ↔ SpentAmong counter v i set
   spent-at counter set b on low n = (
     λ e. (b, n .inSet, eqb-true _ (2 ^ 64 - 1) e),
     λ x. let g = n .greatest (x .0) (on-bus v few (x .0) .0 (on (x .0) (x .1)) .0) (x .1) in
@@ -108,13 +109,13 @@ module _ (t : Table) (bytes : AreBytes t) (isSound : view t .isSound ≡ true) (
   small s = copy-small t bytes _
 
   pub version-spent : (set : ℕ) → set ⊆ onBus v → hears copies set (v .n) ≡ true
-      → (last (byVersion copies set (v .n) .version) ≡ true) ↔ SpentAt (λ c. c .version) v i set
+      → (last (byVersion copies set (v .n) .version) ≡ true) ↔ SpentAmong (λ c. c .version) v i set
   version-spent set on h =
       let f = heard-finds copies set (v .n) h in
       rw (f .version) (spent-at (λ c. c .version) set (f .b) on (small (f .b) .version) (f .newestVersion))
 
   pub generation-spent : (set : ℕ) → set ⊆ onBus v → hears copies set (v .n) ≡ true
-      → (last (byGeneration copies set (v .n) .generation) ≡ true) ↔ SpentAt (λ c. c .generation) v i set
+      → (last (byGeneration copies set (v .n) .generation) ≡ true) ↔ SpentAmong (λ c. c .generation) v i set
   generation-spent set on h =
       let f = heard-finds copies set (v .n) h in
       rw (f .generation) (spent-at (λ c. c .generation) set (f .g) on (small (f .g) .generation) (f .newestGeneration))
@@ -170,7 +171,7 @@ module _ (t : Table) (bytes : AreBytes t) (isSound : view t .isSound ≡ true) (
       write-closes : (u : Table) (value : ℕ) → Asking v (opened write i value noTarget) u → {H N : Type 0}
           → (heard ≡ true) ↔ H → (heard ≡ true → (holdsWrite found (joined 0 places) ≡ true) ↔ N)
           → Closes (reply (afterAll (afterAll u (polls order)) (puts dataSort places)) commit .number) H
-          (SpentAt (λ c. c .version) v i (joined 0 order)) N
+          (SpentAmong (λ c. c .version) v i (joined 0 order)) N
       write-closes u value a h w =
           let busy = a-round write .0 refl in
           let p = polled u write value noTarget busy a order on in
@@ -184,7 +185,7 @@ module _ (t : Table) (bytes : AreBytes t) (isSound : view t .isSound ≡ true) (
       change-closes : (others : List ℕ) → ThoseOn v others → (u : Table) (target : List ℕ) → Asking v (opened change i 0 target) u → {H N : Type 0}
           → (heard ≡ true) ↔ H → (heard ≡ true → ((holdsWrite target (joined 0 places) && holdsWrite found (joined 0 others)) ≡ true) ↔ N)
           → Closes (reply (afterAll (afterAll (afterAll u (polls order)) (puts dataSort places)) (puts configSort others)) commit .number) H
-          (SpentAt (λ c. c .generation) v i (joined 0 order)) N
+          (SpentAmong (λ c. c .generation) v i (joined 0 order)) N
       change-closes others elsewhere u target a h w =
           let busy = a-round change .0 refl in
           let p = polled u change 0 target busy a order on in
@@ -272,7 +273,7 @@ module _ (t : Table) (bytes : AreBytes t) (i : ℕ) where
     pub write-ends : (value : ℕ) → Passable (openWrite i value) → reply t (openWrite i value) .number ≡ 0 → (places : List ℕ) → ThoseOn (view t) places
         → {H N : Type 0} → (its-heard ≡ true) ↔ H → (its-heard ≡ true → (holdsWrite its-found (joined 0 places) ≡ true) ↔ N)
         → Closes (reply (afterAll t (openWrite i value ∷ polls order ++ puts dataSort places)) commit .number) H
-        (SpentAt (λ c. c .version) (view t) i (joined 0 order)) N
+        (SpentAmong (λ c. c .version) (view t) i (joined 0 order)) N
     unfolding afterAll
     write-ends value p e places there h w =
         let b = write-begun value p e in
@@ -283,7 +284,7 @@ module _ (t : Table) (bytes : AreBytes t) (i : ℕ) where
         → (places others : List ℕ) → ThoseOn (view t) places → ThoseOn (view t) others → {H N : Type 0} → (its-heard ≡ true) ↔ H
         → (its-heard ≡ true → ((holdsWrite target (joined 0 places) && holdsWrite its-found (joined 0 others)) ≡ true) ↔ N)
         → Closes (reply (afterAll t (openChange i target ∷ polls order ++ (puts dataSort places ++ puts configSort others))) commit .number) H
-        (SpentAt (λ c. c .generation) (view t) i (joined 0 order)) N
+        (SpentAmong (λ c. c .generation) (view t) i (joined 0 order)) N
     unfolding afterAll
     change-ends target p e places others there elsewhere h w =
         let b = change-begun target p e in

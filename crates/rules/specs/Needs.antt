@@ -62,7 +62,7 @@ SpentAtPut v f read sort = ⊥
 SpentAtPut v f write sort = (sort ≡ dataSort) × Spent v f write
 SpentAtPut v f change sort = (sort ≡ configSort) × Spent v f change
 
--- 15, document 02, 2026-05: some start of the rising order of the stations on the bus is heard
+-- 15, document 02, 2026-05: some start of the rising order of the stations on the bus is heard (what a start has is in Starts.antt of the plan)
 abbrev pub InHearing : State → ℕ → Type 0
 InHearing v i = (k : ℕ) × (g : ℕ) × HeardBy v i (startOn v k) g
 

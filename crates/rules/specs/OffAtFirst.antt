@@ -1,7 +1,7 @@
 -- "New stations start off the bus" (document 02, 2026-02). After a lay that is done every station is off (`Laid` of Steps.antt). From then on, over every
 -- list of calls, a station is on the bus exactly if the last call that moved it, a lay or a link of it, was a link that brought it on. So in a round a
--- poll or a put at a station gets 6 exactly while it is not on, and while no station is on reach gives 0 for every item. With "a link call per
--- station" behind it, a lay gives the table that document 01's lay gave.
+-- poll or a put at a station gets 6 exactly while it is not on, and while no station is on reach gives 0 for every item, and plan gets 15. With "a link
+-- call per station" behind it, a lay gives the table that document 01's lay gave.
 use mathlib.Core.Path.{_≡_}
 use mathlib.Core.Bool.{Bool, false, not, cond}
 use mathlib.Core.List.{List, [], _∷_}
@@ -49,8 +49,9 @@ pub record Bus (t : Table) (on : ℕ → Bool) : Type 0 where
   pub polls : (s : ℕ) → s < view t .n → (view t .round .kind ≡ none → ⊥) → (reply t (poll s) .number ≡ 6) ↔ (on s ≡ false)
   pub puts : (s sort : ℕ) → s < view t .n → (sort ≡ dataSort) ⊎ (sort ≡ configSort) → (view t .round .kind ≡ none → ⊥)
       → (reply t (put s sort) .number ≡ 6) ↔ (on s ≡ false)
-  -- while none is on, reach gives 0 for every item
+  -- while none is on, reach gives 0 for every item, and plan gets 15
   pub reaches : ((s : ℕ) → s < view t .n → on s ≡ false) → (i : ℕ) → i < view t .m → (reply t (reach i) .number ≡ 0) × ZeroFigures (reply t (reach i))
+  pub plans : ((s : ℕ) → s < view t .n → on s ≡ false) → (i : ℕ) → i < view t .m → reply t (plan i) .number ≡ 15
 
 -- a link call per station, from station k on, as many as the count says
 abbrev pub links : ℕ → ℕ → List Call

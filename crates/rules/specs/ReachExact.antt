@@ -11,7 +11,7 @@ use mathlib.Core.Logic.{_↔_, _⊎_}
 use Prim.Native.Nat.{ℕ, _≤_}
 use Rattle.basics.specs.Bytes.{AreBytes}
 use Rattle.quorum.specs.Sets.{member}
-use Rattle.quorum.specs.Orders.{among}
+use Rattle.plan.specs.Starts.{among}
 use Rattle.quorum.specs.Configurations.{writeSet}
 use Rattle.quorum.specs.Promise.{QuorumIn, _⊆_}
 use Rattle.layout.specs.Fields.{none, change}
@@ -25,7 +25,7 @@ use Rattle.rules.specs.Lists.{replies, afterAll, AllPassable}
 use Rattle.rules.specs.Book.{Book, entry, fedAll}
 use Rattle.rules.specs.Demand2.{HeardBy}
 use Rattle.rules.specs.Steps.{SameCopies, PlaceShown}
-use Rattle.rules.specs.WholeRounds.{Opens, polls, puts, AllDone, lastFigure, Closes, SpentAt, DoneGiving}
+use Rattle.rules.specs.WholeRounds.{Opens, polls, puts, AllDone, lastFigure, Closes, SpentAmong, DoneGiving}
 use Rattle.rules.specs.declared.Reply.{Reply}
 
 -- ---- all stations on the bus, in any order
@@ -98,12 +98,12 @@ pub record ReachExact : Type 0 where
   pub writes : (t : Table) (i value : ℕ) (order dataAt : List ℕ) → AreBytes t → Passable (openWrite i value) → reply t (openWrite i value) .number ≡ 0
       → AllOn (view t) order → AllOn (view t) dataAt
       → Closes (reply (afterAll t (openWrite i value ∷ polls order ++ puts dataSort dataAt)) commit .number) (Readable (reply t (reach i) .first))
-      (SpentAt (λ c. c .version) (view t) i (onBus (view t))) (reply t (reach i) .first ≡ 3)
+      (SpentAmong (λ c. c .version) (view t) i (onBus (view t))) (reply t (reach i) .first ≡ 3)
   -- that of a change, with data puts and then configuration puts at all of them: they must hold a write set of the target as well
   pub changes : (t : Table) (i : ℕ) (target order dataAt configAt : List ℕ) → AreBytes t → Passable (openChange i target)
       → reply t (openChange i target) .number ≡ 0 → AllOn (view t) order → AllOn (view t) dataAt → AllOn (view t) configAt
       → Closes (reply (afterAll t (openChange i target ∷ polls order ++ (puts dataSort dataAt ++ puts configSort configAt))) commit .number)
-      (Readable (reply t (reach i) .first)) (SpentAt (λ c. c .generation) (view t) i (onBus (view t)))
+      (Readable (reply t (reach i) .first)) (SpentAmong (λ c. c .generation) (view t) i (onBus (view t)))
       ((reply t (reach i) .first ≡ 3) × QuorumIn (writeSet target) (onBus (view t)))
   -- over every list of demand 3, refused calls and further lays included, whatever the book held before it
   pub over-lists : (t : Table) (b : Book) (n m value : ℕ) (config : List ℕ) (calls : List Call)

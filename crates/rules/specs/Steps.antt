@@ -9,6 +9,7 @@ use mathlib.Core.List.{List}
 use mathlib.Core.Logic.{_↔_, _⊎_}
 use Prim.Native.Nat.{ℕ, suc, _+_, _≤_, _<_}
 use lib.Dec.{ltb, eqb}
+use Rattle.basics.specs.Listing.{Listing}
 use Rattle.basics.specs.Bytes.{AreBytes}
 use Rattle.quorum.specs.Sets.{member}
 use Rattle.quorum.specs.Configurations.{readSet, writeSet}
@@ -17,7 +18,7 @@ use Rattle.layout.specs.Fields.{Kind, none, read, write, change, Round}
 use Rattle.layout.specs.Newest.{IsNewest}
 use Rattle.layout.specs.View.{Table, State, view, onBus, own}
 use Rattle.layout.specs.Updates.{noTarget}
-use Rattle.plan.specs.Plan.{startOn}
+use Rattle.plan.specs.Plan.{orderOn, startOn}
 use Rattle.rules.specs.Calls.{Call, lay, openRead, openWrite, openChange, poll, put, commit, abandon, link, reach, diagnose, plan}
 use Rattle.rules.specs.Calls.{dataSort, configSort, offState, onState}
 use Rattle.rules.specs.Passed.{Passable}
@@ -163,15 +164,21 @@ pub record Diagnosed (v : State) (r : Reply) : Type 0 where
   pub place : OwnPlaceShown v (r .third)
 
 -- ---- plan, document 02, 2026-05: "how many polls first make a new round heard if the stations on the bus are polled in rising number, and how many
--- rising puts then hold a write set of the configuration found; this second figure is 0 if none can". By the starts of that order (`startOn`; what they
--- have is in Starts.antt of the plan). What that means for rounds is in PlanExact.antt.
+-- rising puts then hold a write set of the configuration found; this second figure is 0 if none can". What that means for rounds is in PlanExact.antt of
+-- `plan_exact`.
+-- puts at the k lowest stations on the bus are enough, where q are planned
+abbrev pub Enough : ℕ → ℕ → Type 0
+Enough q k = (1 ≤ q) × (q ≤ k)
+
 pub record Planned (v : State) (i : ℕ) (r : Reply) : Type 0 where
+  -- the order has exactly the stations on the bus, each once, rising; its start of k stations has the first k of them (`has` of Starts.antt of the plan)
+  pub order : Listing (λ s. (s < v .n) × (member (v .off) s ≡ false)) (orderOn v)
   -- polling that many finds the configuration of a station g, and is heard; polling fewer is not
   pub g : ℕ
   pub heard : HeardBy v i (startOn v (r .first)) g
   pub fewest : (k : ℕ) → k < r .first → (s : ℕ) → HeardBy v i (startOn v k) s → ⊥
   -- puts at so many stations hold a write set of it exactly if the figure is not 0 and they are not fewer; all of them do unless it is 0
-  pub written : (k : ℕ) → QuorumIn (writeSet (v .copies i g .config)) (startOn v k) ↔ ((1 ≤ r .second) × (r .second ≤ k))
+  pub written : (k : ℕ) → QuorumIn (writeSet (v .copies i g .config)) (startOn v k) ↔ Enough (r .second) k
   pub unwritten : (r .second ≡ 0) ↔ (QuorumIn (writeSet (v .copies i g .config)) (onBus v) → ⊥)
   pub noOther : r .third ≡ 0
 

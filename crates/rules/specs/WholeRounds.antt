@@ -39,15 +39,16 @@ lastFigure x (r ∷ rest) = lastFigure (r .first) rest
 -- the number of the commit after such calls, by whether the stations polled are heard, whether a counter that the round must raise is spent, and whether
 -- the puts hold the quorums that it must write
 pub record Closes (number : ℕ) (Heard Spent Written : Type 0) : Type 0 where
+  pub finished : (number ≡ 0) ↔ (Heard × (Spent → ⊥) × Written)
   pub unheard : (number ≡ 8) ↔ (Heard → ⊥)
   pub spent : (number ≡ 10) ↔ (Heard × Spent)
   pub short : (number ≡ 11) ↔ (Heard × (Spent → ⊥) × (Written → ⊥))
-  pub finished : (number ≡ 0) ↔ (Heard × (Spent → ⊥) × Written)
   pub noOther : (number ≡ 0) ⊎ ((number ≡ 8) ⊎ ((number ≡ 10) ⊎ (number ≡ 11)))
 
--- some copy of item i at a station of the set has the last number of a counter, which has eight bytes: that number is then the greatest, the one found
-abbrev pub SpentAt : (Copy → ℕ) → State → ℕ → ℕ → Type 0
-SpentAt counter v i set = (s : ℕ) × (member set s ≡ true) × (counter (v .copies i s) ≡ 2 ^ 64 - 1)
+-- some copy of item i at a station of a set of stations below n has the last number of a counter. On bytes a counter has eight of them, so that this number
+-- is the greatest, and the one found.
+abbrev pub SpentAmong : (Copy → ℕ) → State → ℕ → ℕ → Type 0
+SpentAmong counter v i set = (s : ℕ) × (member set s ≡ true) × (counter (v .copies i s) ≡ 2 ^ 64 - 1)
 
 -- a commit that is done, and gives what the book has for the item
 abbrev pub DoneGiving : Entry → Reply → Type 0

@@ -13,7 +13,7 @@ use Rattle.basics.proofs.Tests.{by-cases}
 use Rattle.rules.specs.Calls.{Call}
 use Rattle.rules.specs.Reply.{reply, after}
 use Rattle.rules.specs.Passed.{Passable}
-use Rattle.rules.specs.Demand1.{NumberOf}
+use Rattle.rules.specs.Demand1.{ListedNumber}
 use Rattle.rules.proofs.Demands.{demand1}
 use Rattle.frames.specs.Hex.{bytesIn}
 use Rattle.frames.specs.Frame.{callByte, callOf}
@@ -33,7 +33,7 @@ unfolding callByte
 call-byte-fits line = first-byte (bytesIn line) (bytes-in line)
 
 -- the number of a call has room in a byte
-listed-fits : {c : Call} {k : ℕ} → NumberOf c k → k < 256
+listed-fits : {c : Call} {k : ℕ} → ListedNumber c k → k < 256
 listed-fits (inl l) = omega arith
 listed-fits (inr p) = let e = p .2 in omega arith
 

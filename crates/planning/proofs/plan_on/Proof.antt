@@ -12,7 +12,7 @@ use Rattle.rules.specs.Calls.{reach, plan}
 use Rattle.rules.specs.Needs.{needs as needed}
 use Rattle.openings.proofs.Replies.{refused, finished, shown}
 use Rattle.planning.specs.Planning.{Says}
-use Rattle.planning.specs.declared.Heard.the-variants.{After, Never}
+use Rattle.planning.specs.declared.FirstHeard.the-variants.{After, Never}
 use Rattle.planning.proofs.Plans.{no-item, on-within, unheard, heard, figures}
 use Rattle.planning.proofs.plan_on.Statement.{statement}
 use Rattle.planning.proofs.plan_on.Tie as tie
