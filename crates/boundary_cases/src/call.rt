@@ -1,4 +1,4 @@
-// The eleven calls by code.
+// The twelve calls by code.
 use ospreyscreen::ospreyscreen_abandon;
 use ospreyscreen::ospreyscreen_commit;
 use ospreyscreen::ospreyscreen_diagnose;
@@ -7,6 +7,7 @@ use ospreyscreen::ospreyscreen_link;
 use ospreyscreen::ospreyscreen_open_change;
 use ospreyscreen::ospreyscreen_open_read;
 use ospreyscreen::ospreyscreen_open_write;
+use ospreyscreen::ospreyscreen_plan;
 use ospreyscreen::ospreyscreen_poll;
 use ospreyscreen::ospreyscreen_put;
 use ospreyscreen::ospreyscreen_reach;
@@ -35,10 +36,12 @@ pub const REACH: u64 = 10;
 
 pub const DIAGNOSE: u64 = 11;
 
+pub const PLAN: u64 = 12;
+
 // The number for any other code.
 pub const UNKNOWN: u64 = 99;
 
-// The calls of the last six codes.
+// The calls of the last seven codes.
 fn later(table: &mut [u8], code: u64, a: u64, b: u64) -> Reply {
     match code {
         PUT => ospreyscreen_put(table, a, b),
@@ -47,6 +50,7 @@ fn later(table: &mut [u8], code: u64, a: u64, b: u64) -> Reply {
         LINK => ospreyscreen_link(table, a, b),
         REACH => ospreyscreen_reach(table, a),
         DIAGNOSE => ospreyscreen_diagnose(table),
+        PLAN => ospreyscreen_plan(table, a),
         _ => Reply {
             number: UNKNOWN,
             first: 0,

@@ -1,4 +1,4 @@
-// The unstarred cases of document 01, "Trays through the house", and the boundaries of the eleven calls. The cases stand in the file
+// The unstarred cases of document 01, "Trays through the house", and the boundaries of the twelve calls. The cases stand in the file
 // `stdin`, and `stdout` holds what documents 01 and 02 say of each; it was written from the papers, and EXPECTED.md gives the
 // sentence for every case.
 //
@@ -7,9 +7,9 @@
 // heading, and a line without text is set-up, whose replies are not printed.
 //
 //     lay N M VALUE, read ITEM, write ITEM VALUE, change ITEM, poll STATION, put STATION SORT,
-//     commit, abandon, link STATION STATE, reach ITEM, diagnose
+//     commit, abandon, link STATION STATE, reach ITEM, diagnose, plan ITEM
 //
-// are the eleven calls; lay and change are lent the configuration that was set last. These words say what is lent from then on, or store
+// are the twelve calls; lay and change are lent the configuration that was set last. These words say what is lent from then on, or store
 // in the table, and have no reply:
 //
 //     lend LENGTH         so many bytes of the one space, as the table
@@ -18,10 +18,10 @@
 //     byte AT VALUE       a byte
 //     number AT VALUE     a number of eight bytes, the least significant first
 //
-// And these have ten replies (`rows.rt`):
+// And these have eleven replies (`rows.rt`):
 //
-//     ten                        the ten calls but lay
-//     three ROUND AT VALUE       lays a table of n 3, m 5 with all stations on and a round, and makes the ten calls with one byte
+//     eleven                     the eleven calls but lay
+//     three ROUND AT VALUE       lays a table of n 3, m 5 with all stations on and a round, and makes the eleven calls with one byte
 //                                changed
 //     fifteen ROUND AT VALUE     the same of n 15, m 1
 //

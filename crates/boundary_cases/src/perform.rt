@@ -8,30 +8,30 @@ use crate::lent::store;
 use crate::reading::Call;
 use crate::reading::code_of;
 use crate::rows::damaged;
-use crate::rows::ten;
+use crate::rows::eleven;
 use crate::show::reply;
 
 // The codes of the other words.
-const LEND: u64 = 12;
+const LEND: u64 = 13;
 
-const PAIRS: u64 = 13;
+const PAIRS: u64 = 14;
 
-const SETS: u64 = 14;
+const SETS: u64 = 15;
 
-const BYTE: u64 = 15;
+const BYTE: u64 = 16;
 
-const NUMBER: u64 = 16;
+const NUMBER: u64 = 17;
 
-const TEN: u64 = 17;
+const ELEVEN: u64 = 18;
 
-const THREE: u64 = 18;
+const THREE: u64 = 19;
 
-const FIFTEEN: u64 = 19;
+const FIFTEEN: u64 = 20;
 
 // The pair sets: 0003, 0005, 0006.
 const THE_PAIRS: u64 = 0x0006_0005_0003;
 
-// One of the eleven calls; the reply is printed if it is to be shown, or if there is no such call.
+// One of the twelve calls; the reply is printed if it is to be shown, or if there is no such call.
 fn call_shown(table: &mut [u8], config: &[u8], code: u64, a: u64, b: u64, c: u64, shown: bool) {
     let r = call(table, config, code, a, b, c);
     if shown || r.number == UNKNOWN {
@@ -47,7 +47,7 @@ fn act(table: &mut [u8], config: &[u8], code: u64, a: u64, b: u64, c: u64, shown
             replace(table, a, b);
         }
         NUMBER => store(table, a, b),
-        TEN => ten(table),
+        ELEVEN => eleven(table),
         THREE | FIFTEEN => damaged(table, config, code == THREE, a, b, c),
         _ => call_shown(table, config, code, a, b, c, shown),
     }

@@ -1,7 +1,7 @@
 // Calls as the script writes them: a word, and numbers in decimal.
 
-// The words by code, each a number of its letters' bytes, the last letter's the least significant. Codes 1 to 11 are those of the frames.
-const WORDS: [u64; 19] = [
+// The words by code, each a number of its letters' bytes, the last letter's the least significant. Codes 1 to 12 are those of the frames.
+const WORDS: [u64; 20] = [
     0x6C6179, // 1 lay
     0x72656164, // 2 read
     0x7772697465, // 3 write
@@ -13,14 +13,15 @@ const WORDS: [u64; 19] = [
     0x6C696E6B, // 9 link
     0x7265616368, // 10 reach
     0x646961676E6F7365, // 11 diagnose
-    0x6C656E64, // 12 lend
-    0x7061697273, // 13 pairs
-    0x73657473, // 14 sets
-    0x62797465, // 15 byte
-    0x6E756D626572, // 16 number
-    0x74656E, // 17 ten
-    0x7468726565, // 18 three
-    0x6669667465656E, // 19 fifteen
+    0x706C616E, // 12 plan
+    0x6C656E64, // 13 lend
+    0x7061697273, // 14 pairs
+    0x73657473, // 15 sets
+    0x62797465, // 16 byte
+    0x6E756D626572, // 17 number
+    0x656C6576656E, // 18 eleven
+    0x7468726565, // 19 three
+    0x6669667465656E, // 20 fifteen
 ];
 
 // A call as far as it is read: its word, its numbers, and which of them is read. The word has number 0.
@@ -32,7 +33,7 @@ pub struct Call {
 
 // The code of a word; 0 if it has none.
 pub fn code_of(word: u64) -> u64 {
-    let mut code = 19;
+    let mut code = 20;
     while code > 0 {
         if WORDS[code - 1] == word {
             return code as u64;

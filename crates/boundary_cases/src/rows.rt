@@ -5,6 +5,7 @@ use crate::call::COMMIT;
 use crate::call::DIAGNOSE;
 use crate::call::LAY;
 use crate::call::LINK;
+use crate::call::PLAN;
 use crate::call::POLL;
 use crate::call::PUT;
 use crate::call::REACH;
@@ -17,8 +18,8 @@ use crate::show::reply;
 // Set 0004 on both sides, the target of every change here.
 const TARGET: [u8; 32] = *b"\x04\0\0\0\0\0\0\0\0\0\0\0\0\0\0\0\x04\0\0\0\0\0\0\0\0\0\0\0\0\0\0\0";
 
-// The ten calls but lay, each on item 0 or station 2; diagnose comes right before commit.
-const TEN: [u64; 30] = [
+// The eleven calls but lay, each on item 0 or station 2; diagnose comes right before commit, plan at the end.
+const ELEVEN: [u64; 33] = [
     READ,
     0,
     0,
@@ -49,6 +50,9 @@ const TEN: [u64; 30] = [
     REACH,
     0,
     0,
+    PLAN,
+    0,
+    0,
 ];
 
 // The polls and puts of an open round.
@@ -66,8 +70,8 @@ fn calls(table: &mut [u8], rows: &[u64], shown: bool) {
     }
 }
 
-pub fn ten(table: &mut [u8]) {
-    calls(table, &TEN, true);
+pub fn eleven(table: &mut [u8]) {
+    calls(table, &ELEVEN, true);
 }
 
 // The call that opens a round of a kind, 1 read, 2 write or 3 change; for 0 one that is refused.
@@ -106,10 +110,10 @@ fn prepare(table: &mut [u8], config: &[u8], three: bool, kind: u64) {
     calls(table, &STEPS, false);
 }
 
-// The ten calls on such a table with one byte changed; then the byte is as it was.
+// The eleven calls on such a table with one byte changed; then the byte is as it was.
 pub fn damaged(table: &mut [u8], config: &[u8], three: bool, kind: u64, at: u64, byte: u64) {
     prepare(table, config, three, kind);
     let was = replace(table, at, byte);
-    ten(table);
+    eleven(table);
     replace(table, at, was as u64);
 }
