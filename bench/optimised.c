@@ -639,3 +639,81 @@ ospreyscreen_reply opt_diagnose(const uint8_t *table, size_t len)
     uint64_t number = place == 0 ? OSPREYSCREEN_UNHEARD : closing_number(&h, data, found);
     return done(number, 1 + (uint64_t)(data - copies) / COPY, place);
 }
+
+/* The bit above all stations: no set is held. */
+enum { NONE_HELD = 0x10000 };
+
+/* All stations up to the highest one of a set, for that used set of the side
+ * which the stations hold and where these are fewest; with the bit above if
+ * they hold none. A start of their rising order holds a set exactly if it lacks
+ * none of these. Each lane gets what is below its highest station, by shifts,
+ * or all ones if its set does not count; the fewest are in all lanes. */
+static inline uint64_t up_to_first_held(uint64_t stations, const uint8_t *at)
+{
+    lanes s = get_side(at);
+    uint16_t lacking = (uint16_t)~stations;
+    lanes below = s >> 1;
+    uint64_t halves[2];
+
+    for (int shift = 1; shift < 16; shift *= 2) {
+        below |= below >> shift;
+    }
+    below |= (lanes)(s == 0) | (lanes)((s & lacking) != 0);
+    memcpy(halves, &below, sizeof halves);
+    uint64_t fewest = halves[0] & halves[1];
+    fewest &= fewest >> 32;
+    fewest &= fewest >> 16;
+    return (fewest & 0xFFFF) << 1 | 1;
+}
+
+/* How many stations the set has. */
+static inline uint64_t size_of(uint64_t set)
+{
+    set -= set >> 1 & 0x5555;
+    set = (set & 0x3333) + (set >> 2 & 0x3333);
+    set = (set + (set >> 4)) & 0x0F0F;
+    return (set + (set >> 8)) & 0x1F;
+}
+
+/* Looks at copies from the lowest station on until those seen are heard. What
+ * that takes is worked out anew where the configuration found changes. */
+static inline ospreyscreen_reply plan(const uint8_t *copies, uint64_t on)
+{
+    uint64_t left = on & (on - 1);
+    const uint8_t *found = copies + COPY * __builtin_ctzll(on);
+    uint64_t highest = get_word(found + GENERATION);
+    uint64_t goal = up_to_first_held(on, found + CONFIGURATION);
+    uint64_t polls = 1;
+
+    for (; (goal & (left | NONE_HELD)) != 0; left &= left - 1, polls++) {
+        if (left == 0) {
+            return refused(OSPREYSCREEN_OUT_OF_HEARING);
+        }
+        const uint8_t *copy = copies + COPY * __builtin_ctzll(left);
+        uint64_t number = get_word(copy + GENERATION);
+        if (number > highest) {
+            highest = number;
+            found = copy;
+            goal = up_to_first_held(on, found + CONFIGURATION);
+        }
+    }
+    uint64_t puts = up_to_first_held(on, found + CONFIGURATION + 16);
+    return done(polls, (puts & NONE_HELD) != 0 ? 0 : size_of(puts & on), 0);
+}
+
+ospreyscreen_reply opt_plan(const uint8_t *table, size_t len, uint64_t item)
+{
+    head h;
+
+    if (!read_sound(&h, table, len)) {
+        return refused(OSPREYSCREEN_UNSOUND);
+    }
+    if (item >= h.m) {
+        return refused(OSPREYSCREEN_NO_SUCH_THING);
+    }
+    uint64_t on = ((UINT64_C(1) << h.n) - 1) & ~h.off;
+    if (on == 0) {
+        return refused(OSPREYSCREEN_OUT_OF_HEARING);
+    }
+    return plan(table + item_start(&h, item), on);
+}

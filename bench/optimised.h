@@ -20,6 +20,7 @@ ospreyscreen_reply opt_abandon(uint8_t *table, size_t len);
 ospreyscreen_reply opt_link(uint8_t *table, size_t len, uint64_t station, uint64_t state);
 ospreyscreen_reply opt_reach(const uint8_t *table, size_t len, uint64_t item);
 ospreyscreen_reply opt_diagnose(const uint8_t *table, size_t len);
+ospreyscreen_reply opt_plan(const uint8_t *table, size_t len, uint64_t item);
 ospreyscreen_reply opt_votes(const uint8_t *votes, size_t votes_len, uint64_t read, uint64_t write,
                              uint8_t *out, size_t out_len);
 /* The same by a search, one number at a time, as the library does it. */

@@ -115,6 +115,8 @@ static ospreyscreen_reply make_call(runner *r, const uint8_t *frame)
         return opt_reach(r->table, r->len, frame[1]);
     case OSPREYSCREEN_DIAGNOSE:
         return opt_diagnose(r->table, r->len);
+    case OSPREYSCREEN_PLAN:
+        return opt_plan(r->table, r->len, frame[1]);
     default: /* a call that this runner has not been taught */
         abort();
     }

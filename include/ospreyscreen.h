@@ -39,7 +39,7 @@ extern "C" {
 
 /* The version of this header and of the library that belongs to it. */
 #define OSPREYSCREEN_VERSION_MAJOR 0
-#define OSPREYSCREEN_VERSION_MINOR 5
+#define OSPREYSCREEN_VERSION_MINOR 6
 #define OSPREYSCREEN_VERSION_PATCH 0
 #define OSPREYSCREEN_VERSION_STRING                                                                \
     OSPREYSCREEN_DOTTED_(OSPREYSCREEN_VERSION_MAJOR, OSPREYSCREEN_VERSION_MINOR,                   \
@@ -81,7 +81,8 @@ enum ospreyscreen_number {
     OSPREYSCREEN_SHORT = 11,              /* the puts lack a write set */
     OSPREYSCREEN_FALSE_FRAME = 12,        /* given by the frame runner only, by no call below */
     OSPREYSCREEN_FALSE_VOTES = 13,        /* not 1 to 16 stations, or thresholds that do not fit */
-    OSPREYSCREEN_TOO_MANY_SETS = 14       /* more than eight smallest sets on a side */
+    OSPREYSCREEN_TOO_MANY_SETS = 14,      /* more than eight smallest sets on a side */
+    OSPREYSCREEN_OUT_OF_HEARING = 15      /* at plan: polls in rising number are never heard */
 };
 
 /* The calls on a table, numbered as the frame runner's frames number them. */
@@ -96,7 +97,8 @@ enum ospreyscreen_call {
     OSPREYSCREEN_ABANDON = 8,
     OSPREYSCREEN_LINK = 9,
     OSPREYSCREEN_REACH = 10,
-    OSPREYSCREEN_DIAGNOSE = 11
+    OSPREYSCREEN_DIAGNOSE = 11,
+    OSPREYSCREEN_PLAN = 12
 };
 
 /* The kind of round that is open, as byte 4 of a table's head keeps it. */
@@ -267,6 +269,29 @@ ospreyscreen_reply ospreyscreen_reach(const uint8_t *table, size_t len, uint64_t
  * Refusals: 1 table, 5 no round, where commit gets them too.
  */
 ospreyscreen_reply ospreyscreen_diagnose(const uint8_t *table, size_t len);
+
+/*
+ * Tells how many polls a new round on the item will take, and how many puts a
+ * write then, if it turns to the stations on the bus in rising number, from the
+ * lowest on. Stations that are off do not count, nor does the round that is
+ * open. Changes no byte.
+ * Figures:
+ * - first is the polls: after so many the round is heard, for the first time,
+ *   by what these copies give. A read that polls no more is done;
+ * - second is the puts: data puts at so many stations on the bus, again from
+ *   the lowest on, polled or not, hold a write set of the configuration that
+ *   the polls found, and one less does not. A write with these polls and puts
+ *   is done, unless the version found is 2^64 - 1. A change needs as many
+ *   configuration puts; its data puts go by the target. 0 if puts at all
+ *   stations on the bus hold no such set: the item can only be read now.
+ * Both are 1 to 16, and either may be the larger. They hold as long as nobody
+ * is linked, and no round on the item finishes; other orders may take fewer.
+ * Refusals: 1 table, 2 item, 15 no such polls make a round heard, all stations
+ * on the bus included, as with nobody on the bus. Reach is then 0. On a table
+ * that only these calls have changed since a lay that was done, plan gets 15
+ * wherever reach is 0.
+ */
+ospreyscreen_reply ospreyscreen_plan(const uint8_t *table, size_t len, uint64_t item);
 
 /*
  * Turns votes into the configuration that they stand for, as lay and

@@ -52,7 +52,7 @@ void book_step(book *b, const call *c, uint64_t number)
     case OSPREYSCREEN_ABANDON:
         b->noted = OSPREYSCREEN_ROUND_NONE;
         break;
-    default: /* "Poll, put, link, reach: the book stays as it was", and with diagnose */
+    default: /* "Poll, put, link, reach: the book stays as it was", and with diagnose and plan */
         break;
     }
 }

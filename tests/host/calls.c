@@ -108,6 +108,11 @@ static const void *make_diagnose(const implementation *with, const call *c,
     return AS(no_number, with->diagnose)(REPLY_AND_TABLE);
 }
 
+static const void *make_plan(const implementation *with, const call *c, const loan lent[LENT_KINDS])
+{
+    return AS(one_number, with->plan)(REPLY_AND_TABLE, c->numbers[ARGUMENT_ITEM]);
+}
+
 /* ---- The rows ---- */
 
 #define GIVES(number) (1u << OSPREYSCREEN_##number)
@@ -154,6 +159,10 @@ const call_shape CALLS[CALL_COUNT] = {
     {OSPREYSCREEN_DIAGNOSE, "diagnose",
      0, {0},
      GIVES(DONE) | GIVES(UNSOUND) | GIVES(IDLE), OSPREYSCREEN_ROUND_NONE, make_diagnose},
+    {OSPREYSCREEN_PLAN, "plan",
+     1, {ARGUMENT_ITEM},
+     GIVES(DONE) | GIVES(UNSOUND) | GIVES(NO_SUCH_THING) | GIVES(OUT_OF_HEARING),
+     OSPREYSCREEN_ROUND_NONE, make_plan},
 };
 
 const call_shape *call_of(int code)

@@ -11,7 +11,7 @@
 
 #include <stdbool.h>
 
-enum { REPLY_NUMBERS = 12, ARGUMENTS_MOST = 4, FRAME_MOST = 43, CONFIGURATION_ROOM = 300 };
+enum { REPLY_NUMBERS = 16, ARGUMENTS_MOST = 4, FRAME_MOST = 43, CONFIGURATION_ROOM = 300 };
 
 /* The buffers that calls are lent. A reply is one of them: on x86-64 with the
  * System V convention the caller hands over where a struct of four numbers is
@@ -138,6 +138,13 @@ static inline call call_diagnose(void)
     return (call){.code = OSPREYSCREEN_DIAGNOSE};
 }
 
+static inline call call_plan(uint64_t item)
+{
+    call c = {.code = OSPREYSCREEN_PLAN};
+    c.numbers[ARGUMENT_ITEM] = item;
+    return c;
+}
+
 /* An implementation's functions, so that a program can drive any of them. */
 typedef struct {
     const char *name;
@@ -152,6 +159,7 @@ typedef struct {
     ospreyscreen_reply (*link)(uint8_t *, size_t, uint64_t, uint64_t);
     ospreyscreen_reply (*reach)(const uint8_t *, size_t, uint64_t);
     ospreyscreen_reply (*diagnose)(const uint8_t *, size_t);
+    ospreyscreen_reply (*plan)(const uint8_t *, size_t, uint64_t);
 } implementation;
 
 /* An implementation's table, from the prefix of its functions. */
@@ -159,7 +167,7 @@ typedef struct {
     {                                                                                          \
         name, prefix##lay, prefix##open_read, prefix##open_write, prefix##open_change,         \
             prefix##poll, prefix##put, prefix##commit, prefix##abandon, prefix##link,          \
-            prefix##reach, prefix##diagnose                                                    \
+            prefix##reach, prefix##diagnose, prefix##plan                                      \
     }
 
 typedef struct {
@@ -173,7 +181,7 @@ typedef struct {
     const void *(*make)(const implementation *, const call *, const loan lent[LENT_KINDS]);
 } call_shape;
 
-enum { CALL_COUNT = 11, CALL_CODES = 1 + CALL_COUNT };
+enum { CALL_COUNT = 12, CALL_CODES = 1 + CALL_COUNT };
 extern const call_shape CALLS[CALL_COUNT];
 
 /* The row of the code, or a null pointer. */

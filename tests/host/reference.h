@@ -22,6 +22,7 @@ ospreyscreen_reply ref_abandon(uint8_t *table, size_t len);
 ospreyscreen_reply ref_link(uint8_t *table, size_t len, uint64_t station, uint64_t state);
 ospreyscreen_reply ref_reach(const uint8_t *table, size_t len, uint64_t item);
 ospreyscreen_reply ref_diagnose(const uint8_t *table, size_t len);
+ospreyscreen_reply ref_plan(const uint8_t *table, size_t len, uint64_t item);
 
 /* What makes a configuration false: document 01's clauses, by side. */
 enum {

@@ -58,3 +58,8 @@ ospreyscreen_reply ospreyscreen_diagnose(const uint8_t *table, size_t len)
 {
     return opt_diagnose(table, len);
 }
+
+ospreyscreen_reply ospreyscreen_plan(const uint8_t *table, size_t len, uint64_t item)
+{
+    return opt_plan(table, len, item);
+}

@@ -16,7 +16,7 @@ import unittest
 
 TOOL = pathlib.Path(__file__).resolve().parents[2] / "tools" / "frames"
 PRINT_CALLS, RUNNER = "", ""
-LENGTHS = [43, 2, 10, 34, 2, 3, 1, 1, 3, 2, 1]  # by code: document 01's, then document 02's
+LENGTHS = [43, 2, 10, 34, 2, 3, 1, 1, 3, 2, 1, 2]  # by code: document 01's, then document 02's
 PAIRS = "030005000600" + "0" * 20
 
 # Words and the frame that they stand for.
@@ -40,6 +40,8 @@ FRAMES = [
     ("link 2 7", "090207"),
     ("reach 0", "0A00"),
     ("diagnose", "0B"),
+    ("plan 0", "0C00"),
+    ("plan 31", "0C1F"),
 ]
 
 # Configurations as digits: words and the frame.
@@ -91,26 +93,46 @@ REPLIES = [
     # what cannot come
     ("0B00" + figures(11, 17, 2), "diagnose: done, figures 11 17 2"),
     ("0B00" + figures(11, 3, 9), "diagnose: done, figures 11 3 9"),
-    ("0B00" + figures(15, 3, 2), "diagnose: done, figures 15 3 2"),
+    ("0B00" + figures(16, 3, 2), "diagnose: done, figures 16 3 2"),
     ("0B00" + "F" * 48, "diagnose: done, figures" + " 18446744073709551615" * 3),
     ("0B05" + figures(11, 3, 2), "diagnose: refused, 5 idle, figures 11 3 2"),
     ("0B63" + ZEROS, "diagnose: refused, 99 unknown number"),
+    ("0C00" + figures(1, 1, 0), "plan: done, heard after 1 poll, write set held by 1 put"),
+    ("0C00" + figures(2, 3, 0), "plan: done, heard after 2 polls, write set held by 3 puts"),
+    ("0C00" + figures(16, 16, 0), "plan: done, heard after 16 polls, write set held by 16 puts"),
+    ("0C00" + figures(2, 0, 0), "plan: done, heard after 2 polls, no write set on the bus"),
+    ("0C01" + ZEROS, "plan: refused, 1 unsound"),
+    ("0C02" + ZEROS, "plan: refused, 2 no such thing"),
+    ("0C0F" + ZEROS, "plan: refused, 15 out of hearing"),
+    ("0C0C" + ZEROS, "plan: refused, 12 false frame"),
+    # what cannot come
+    ("0C00" + ZEROS, "plan: done"),
+    ("0C00" + figures(0, 2, 0), "plan: done, figures 0 2 0"),
+    ("0C00" + figures(17, 2, 0), "plan: done, figures 17 2 0"),
+    ("0C00" + figures(2, 17, 0), "plan: done, figures 2 17 0"),
+    ("0C00" + figures(2, 2, 5), "plan: done, heard after 2 polls, write set held by 2 puts, figures 0 0 5"),
+    ("0C0F" + figures(2, 2, 0), "plan: refused, 15 out of hearing, figures 2 2 0"),
     ("000C" + ZEROS, "call 00: refused, 12 false frame"),
     ("FF0C" + ZEROS, "call FF: refused, 12 false frame"),
     ("010D" + ZEROS, "lay: refused, 13 false votes"),
     ("010E" + ZEROS, "lay: refused, 14 too many sets"),
-    ("010F" + ZEROS, "lay: refused, 15 unknown number"),
+    ("010F" + ZEROS, "lay: refused, 15 out of hearing"),
+    ("0110" + ZEROS, "lay: refused, 16 unknown number"),
     ("0801" + "0" * 46 + "80", "abandon: refused, 1 unsound, figures 0 0 9223372036854775808"),
 ]
 
 # Words, and the runner's replies to them in words.
 SESSION = [
     ("diagnose", "diagnose: refused, 1 unsound"),
+    ("plan 0", "plan: refused, 1 unsound"),
     ("lay 3 1 500 read 0003 0005 0006 write 0003 0005 0006", "lay: done"),
+    ("plan 0", "plan: refused, 15 out of hearing"),
     ("link 0 on", "link: done"),
     ("link 1 on", "link: done"),
     ("link 2 on", "link: done"),
     ("diagnose", "diagnose: refused, 5 idle"),
+    ("plan 0", "plan: done, heard after 2 polls, write set held by 2 puts"),
+    ("plan 1", "plan: refused, 2 no such thing"),
     ("open write 0 510", "open write: done"),
     ("diagnose", "diagnose: commit would get 8 unheard; nothing polled; no read place held"),
     ("poll 1", "poll: done, not heard"),
@@ -126,14 +148,14 @@ SESSION = [
     ("diagnose", "diagnose: commit would get 11 short; version from station 2; read place 1 held"),
 ]
 
-FALSE_FRAMES = ["", "0", "07 ", "07\r", "0a00", "0700", "05", "0B00", "0C", "0C00", "00", "02GG", "5", "0" * 100,
-                "0500" + "\0", "05 0", "0506" + ZEROS.replace("0", "g")]
+FALSE_FRAMES = ["", "0", "07 ", "07\r", "0a00", "0700", "05", "0B00", "0C", "0C0000", "0D", "0D00", "00", "02GG", "5",
+                "0" * 100, "0500" + "\0", "05 0", "0506" + ZEROS.replace("0", "g")]
 
 WRONG_WORDS = [
     "pole 1", "open", "open shut 0", "poll", "poll 1 2", "poll 256", "poll -1", "poll x", "poll 1_0",
     "open write 0", "open write 0 18446744073709551616", "put 0", "put 0 datum", "put 0 256",
-    "link 0 maybe", "commit now", "diagnose 0", "diagnose commit", "lay 3 1 500", "lay 3 1 500 read 0003",
-    "lay 3 1 500 write 0003 read 0003", "open change 0 read 10000 write 0001",
+    "link 0 maybe", "commit now", "diagnose 0", "diagnose commit", "plan", "plan 0 1", "plan 256", "lay 3 1 500",
+    "lay 3 1 500 read 0003", "lay 3 1 500 write 0003 read 0003", "open change 0 read 10000 write 0001",
     "open change 0 read 0x01 write 0001", "open change 0 read write write",
     "open change 0 read " + "0001 " * 9 + "write 0001",
     "open change 0", "open change 0 " + DIGITS[1:], "open change 0 " + DIGITS + "0",

@@ -51,7 +51,8 @@ FALSE_LINES = [
     (b"", "00"), (b"0", "00"), (b"7", "00"), (b" 07", "00"), (b"07 ", "07"), (b"07\r", "07"),
     (b"\r", "00"), (b"\0", "00"), (b"07\0", "07"), (b"0700", "07"), (b"0", "00"), (b"05", "05"),
     (b"0500F", "05"), (b"050", "05"), (b"050001", "05"), (b"0a00", "00"), (b"0A0g", "0A"),
-    (b"0A", "0A"), (b"0B00", "0B"), (b"0C", "0C"), (b"0C00", "0C"), (b"00", "00"), (b"FF", "FF"), (b"fF", "00"), (b"F0F0", "F0"),
+    (b"0A", "0A"), (b"0B00", "0B"), (b"0C", "0C"), (b"0C0000", "0C"), (b"0D", "0D"), (b"0D00", "0D"), (b"00", "00"),
+    (b"FF", "FF"), (b"fF", "00"), (b"F0F0", "F0"),
     (b"GG", "00"), (b"0x05", "00"), (b"05\t0", "05"), (b"\xff07", "00"), (LAY.encode()[:-2], "01"),
     (LAY.encode() + b"00", "01"), (LAY.encode() + b"0", "01"), (LAY.encode().lower(), "01"),
     (b"0" * 100000, "00"), (b"07" * 50001, "07"), (b"F" * 65536, "FF"), (b"A" * 65537, "AA"),
@@ -59,7 +60,7 @@ FALSE_LINES = [
 
 # One frame of each call but lay.
 OTHER_CALLS = ["0200", "0300" + "0" * 16, "0400" + PAIRS + PAIRS, "0500", "060001", "07", "08",
-               "090001", "0A00", "0B"]
+               "090001", "0A00", "0B", "0C00"]
 
 
 def done(code, first=0, second=0, third=0):
@@ -155,6 +156,27 @@ class Runner(unittest.TestCase):
         self.assertEqual(got[14:19], [done("06"), done("06"), done("09"), done("0B", 11, 2, 3), refused("07", 11)])
         self.assertEqual(got[19:22], [done("09"), done("06"), done("0B", 0, 2, 3)])
         self.assertEqual(got[22:], ["0700FE010000000000000100000000000000" + "0" * 16, refused("0B", 5)])
+
+    def test_plan_by_the_stations_on_the_bus(self):
+        """Round or no round; an item that is none comes before nobody to hear."""
+        got = replies([LAY, "0C00", "0C01", LINKS[0], "0C00", LINKS[2], "0C00", LINKS[1], "0C00", "0C01", "0200",
+                       "0C00", "0500", "0502", "0C00", "07"])
+        self.assertEqual(got[1:5], [refused("0C", 15), refused("0C", 2), done("09"), refused("0C", 15)])
+        self.assertEqual(got[5:10], [done("09"), done("0C", 2, 2), done("09"), done("0C", 2, 2), refused("0C", 2)])
+        self.assertEqual(got[10:], [done("02"), done("0C", 2, 2), done("05"), done("05", 2), done("0C", 2, 2), READ_500])
+
+    def test_plan_after_a_move(self):
+        """The house of request 2026-03: from read and write {0, 1} to read {2}, write {2, 3}; the polls of 0 and 1 find
+        that. Without 0 there is one poll and one put less, without 3 no write set, and without 0 and 1 nobody knows."""
+        lay = "010401F401000000000000" + 2 * ("0300" + "0" * 28)
+        move = "0400" + "0400" + "0" * 28 + "0C00" + "0" * 28
+        links = [*LINKS, "090301"]
+        got = replies([lay, *links, "0C00", move, "0C00", "0500", "0501", "060201", "060301", "060002", "060102", "07",
+                       "0C00", "090000", "0C00", "090300", "0C00", "090301", "090100", "0C00"])
+        self.assertEqual([got[5], got[7]], 2 * [done("0C", 2, 2)])
+        self.assertEqual(got[14:16], ["0700F4010000000000000000000000000000" + "01" + "0" * 14, done("0C", 3, 4)])
+        self.assertEqual(got[16:20], [done("09"), done("0C", 2, 3), done("09"), done("0C", 2)])
+        self.assertEqual(got[20:], [done("09"), done("09"), refused("0C", 15)])
 
     def test_largest_table(self):
         lay = "0110200A00000000000000" + "FFFF" + "0" * 28 + "FFFF" + "0" * 28
