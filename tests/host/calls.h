@@ -25,6 +25,13 @@ typedef struct {
     size_t len;
 } loan;
 
+/* Whether number and figures are the same. */
+static inline bool same_reply(const ospreyscreen_reply *a, const ospreyscreen_reply *b)
+{
+    return a->number == b->number && a->first == b->first && a->second == b->second &&
+           a->third == b->third;
+}
+
 /* What an argument can be. Every kind but the configuration is a number. */
 typedef enum {
     ARGUMENT_N,

@@ -24,7 +24,7 @@ static unsigned used_places(const uint8_t *config, unsigned side)
     return used;
 }
 
-static unsigned size_of(unsigned set)
+unsigned set_size(unsigned set)
 {
     unsigned size = 0;
     for (; set != 0; set &= set - 1) {
@@ -33,12 +33,21 @@ static unsigned size_of(unsigned set)
     return size;
 }
 
+unsigned lowest_stations(unsigned set, unsigned count)
+{
+    unsigned left = set;
+    for (; left != 0 && count > 0; count--) {
+        left &= left - 1;
+    }
+    return set & ~left;
+}
+
 unsigned station_of(rng *r, unsigned set)
 {
-    for (uint64_t skip = rng_below(r, size_of(set)); skip > 0; skip--) {
+    for (uint64_t skip = rng_below(r, set_size(set)); skip > 0; skip--) {
         set &= set - 1;
     }
-    return size_of((set & -set) - 1);
+    return set_size((set & -set) - 1);
 }
 
 unsigned part_of(rng *r, unsigned set)
@@ -49,7 +58,7 @@ unsigned part_of(rng *r, unsigned set)
 static unsigned random_majority(rng *r, unsigned n)
 {
     unsigned set = 0;
-    while (size_of(set) < n / 2 + 1) {
+    while (set_size(set) < n / 2 + 1) {
         set |= 1u << rng_below(r, n);
     }
     return set;

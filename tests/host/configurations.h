@@ -41,6 +41,12 @@ unsigned configuration_stations(const uint8_t *config);
 /* Whether every write set of the one misses every read set of the other. */
 bool configuration_misses(const uint8_t *writes, const uint8_t *reads);
 
+/* How many stations the set has. */
+unsigned set_size(unsigned set);
+
+/* So many stations of the set, the lowest ones; all if there are no more. */
+unsigned lowest_stations(unsigned set, unsigned count);
+
 /* A random station of a set that is not empty. */
 unsigned station_of(rng *r, unsigned set);
 

@@ -106,6 +106,18 @@ void damage_tie(rng *r, uint8_t *table, unsigned item)
     }
 }
 
+void damage_order(rng *r, uint8_t *table, unsigned item)
+{
+    unsigned n = stations_in(table);
+
+    for (unsigned station = 0; station < n; station++) {
+        uint8_t *copy = copy_in(table, item, station);
+        unsigned some = part_of(r, all_stations(n)) | 1u << rng_below(r, n);
+        set_number(copy + GENERATION_IN, 8, rng_below(r, 4));
+        configuration_among(r, some, copy + CONFIGURATION_IN);
+    }
+}
+
 void damage_counters(rng *r, uint8_t *table, size_t len)
 {
     for (size_t at = HEAD; at + COPY <= len; at += COPY) {

@@ -25,6 +25,11 @@ bool damage_configuration(rng *r, uint8_t *config, unsigned n, unsigned clause);
  * configurations. The table stays sound. */
 void damage_tie(rng *r, uint8_t *table, unsigned item);
 
+/* Gives every copy of the item of a sound table a low generation and a
+ * configuration of its own, so that what polls find changes from station to
+ * station. The table stays sound. */
+void damage_order(rng *r, uint8_t *table, unsigned item);
+
 /* Sets counters at both ends of their range, in one copy in four. The table
  * stays as sound as it was. */
 void damage_counters(rng *r, uint8_t *table, size_t len);

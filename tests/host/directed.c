@@ -232,6 +232,7 @@ static void every_size(generator *g, uint64_t index)
     draw_configuration(&g->source, n, config);
     change_round(g, n, m - 1, config);
     make(g, call_reach(m - 1));
+    make(g, call_plan(m - 1));
     read_round(g, n, m - 1);
     read_round(g, n, 0);
 }
@@ -558,8 +559,8 @@ static void calls_at_stations(generator *g, unsigned n)
     }
 }
 
-/* Openings and reach of an item that is there and of one that is not, with a
- * target that is valid and ones that are not. */
+/* Openings, reach and plan of an item that is there and of one that is not, with
+ * a target that is valid and ones that are not. */
 static void calls_at_items(generator *g, unsigned n, unsigned m)
 {
     uint8_t target[CONFIGURATION];
@@ -575,6 +576,7 @@ static void calls_at_items(generator *g, unsigned n, unsigned m)
         call_on_scene(g, call_open_change(item, false_target));
         call_on_scene(g, short_change);
         call_on_scene(g, call_reach(item));
+        call_on_scene(g, call_plan(item));
     }
 }
 
@@ -621,10 +623,12 @@ static void begin_copies(generator *g, unsigned n)
 }
 
 /* A read, a write and a change of the scene's item with every station polled,
- * and its reach with each station off in turn. */
+ * and its reach with each station off in turn; its plan with all on and with
+ * one off. */
 static void look_at_copies(generator *g)
 {
     unsigned n = scene[0];
+    unsigned chosen = (unsigned)rng_below(&g->source, n);
 
     for (unsigned kind = OSPREYSCREEN_ROUND_READ; kind <= OSPREYSCREEN_ROUND_CHANGE; kind++) {
         damage_round(&g->source, scene, kind);
@@ -641,9 +645,13 @@ static void look_at_copies(generator *g)
     }
     damage_round(&g->source, scene, OSPREYSCREEN_ROUND_NONE);
     set_scene(g);
+    make(g, call_plan(0));
     for (unsigned station = 0; station < n; station++) {
         make(g, call_link(station, OSPREYSCREEN_LINK_OFF));
         make(g, call_reach(0));
+        if (station == chosen) {
+            make(g, call_plan(0));
+        }
         make(g, call_link(station, OSPREYSCREEN_LINK_ON));
     }
 }
@@ -778,7 +786,7 @@ static void one_place(generator *g, uint64_t index)
 
 /* ---- Rounds ---- */
 
-/* Every set of stations off the bus, and the reach of every item. */
+/* Every set of stations off the bus, the reach of every item and a plan. */
 static void every_off_set(generator *g, uint64_t index)
 {
     enum { MOST = 8 };
@@ -792,6 +800,7 @@ static void every_off_set(generator *g, uint64_t index)
         record_bytes(&g->to, OFF_AT, set, sizeof set);
         make(g, call_reach(0));
         make(g, call_reach(1));
+        make(g, call_plan(0));
     }
 }
 
@@ -866,23 +875,26 @@ static void moves(generator *g, uint64_t index)
         write_round(g, n, 0);
         change_round(g, n, 0, turn % 2 == 0 ? there : here);
         make(g, call_reach(0));
+        make(g, call_plan(0));
         read_round(g, n, 0);
     }
 }
 
-/* The stations go off or return one by one, and item 0's reach is asked. */
-static void link_and_reach(generator *g, unsigned set, uint64_t state)
+/* The stations go off or return one by one, and item 0's reach and plan are
+ * asked. */
+static void link_and_ask(generator *g, unsigned set, uint64_t state)
 {
     while (set != 0) {
         link_one_to(g, &set, state);
         make(g, call_reach(0));
+        make(g, call_plan(0));
     }
 }
 
 static void leave_and_return(generator *g, unsigned set)
 {
-    link_and_reach(g, set, OSPREYSCREEN_LINK_OFF);
-    link_and_reach(g, set, OSPREYSCREEN_LINK_ON);
+    link_and_ask(g, set, OSPREYSCREEN_LINK_OFF);
+    link_and_ask(g, set, OSPREYSCREEN_LINK_ON);
 }
 
 /* A change from here to there, of which one write set of the old configuration
@@ -903,6 +915,7 @@ static void tell_few(generator *g, unsigned n, const uint8_t *here, const uint8_
     put_at(g, told, OSPREYSCREEN_PUT_CONFIGURATION);
     make(g, call_commit());
     make(g, call_reach(0));
+    make(g, call_plan(0));
     leave_and_return(g, told);
     make(g, call_open_write(0, rng_next(r)));
     poll_all(g, n);
@@ -930,6 +943,128 @@ static void left_behind(generator *g, uint64_t index)
     configuration_among(r, low, here);
     configuration_among(r, index % 2 == 0 ? all : all & ~low, there);
     tell_few(g, n, here, there);
+}
+
+/* ---- Plans ---- */
+
+/* A set of the stations that has the lowest of them and, as its highest, the
+ * last of so many. */
+static unsigned set_up_to(rng *r, unsigned stations, unsigned count)
+{
+    unsigned start = lowest_stations(stations, count);
+    unsigned below = lowest_stations(stations, count - 1);
+    return part_of(r, start) | (start & ~below) | lowest_stations(stations, 1);
+}
+
+/* Sets of the side, one of which the start of so many stations holds first; none
+ * is held if that is 0. The other sets take longer, or name a station that is
+ * off, where there is one. All have the lowest station on the bus. */
+static void fill_side(rng *r, uint8_t *config, unsigned side, unsigned on, unsigned off,
+                      unsigned count)
+{
+    unsigned least = count == 0 ? 1 : count;
+    unsigned used = 1 + (unsigned)rng_below(r, PLACES);
+    unsigned first = (unsigned)rng_below(r, used);
+
+    for (unsigned place = 0; place < used; place++) {
+        bool other = place != first;
+        unsigned more = other ? (unsigned)rng_below(r, set_size(on) - least + 1) : 0;
+        unsigned set = set_up_to(r, on, least + more);
+        if (count == 0 || (other && off != 0 && rng_one_in(r, 3))) {
+            set |= 1u << station_of(r, off);
+        }
+        configuration_set_to(config, side + place, set);
+    }
+}
+
+/* Item 0's copies all get the configuration, at any generation. */
+static void set_all_copies(rng *r, const uint8_t *config)
+{
+    for (unsigned station = 0; station < scene[N_AT]; station++) {
+        set_number(scene_copy(0, station) + GENERATION_IN, 8, rng_below(r, 3));
+        memcpy(scene_copy(0, station) + CONFIGURATION_IN, config, CONFIGURATION);
+    }
+}
+
+/* Every number of polls with every number of puts, with all stations on the bus
+ * and with some, in any round. */
+static void every_figure(generator *g, uint64_t index)
+{
+    rng *r = &g->source;
+    unsigned n = 1 + (unsigned)index % STATIONS;
+    unsigned on = index < STATIONS ? all_stations(n) : draw_some(r, all_stations(n));
+    unsigned off = all_stations(n) & ~on;
+    unsigned size = set_size(on);
+
+    begin(g, n, 2);
+    set_set(scene + OFF_AT, off);
+    for (unsigned polls = 1; polls <= size; polls++) {
+        for (unsigned puts = off == 0; puts <= size; puts++) {
+            uint8_t config[CONFIGURATION] = {0};
+            fill_side(r, config, READ_SIDE, on, off, polls);
+            fill_side(r, config, WRITE_SIDE, on, off, puts);
+            set_all_copies(r, config);
+            damage_round(r, scene, (unsigned)rng_below(r, 4));
+            call_on_scene(g, call_plan(0));
+        }
+    }
+}
+
+/* Copies that differ from station to station, any stations off, in any round;
+ * the plans of both items. */
+static void any_order(generator *g, uint64_t index)
+{
+    enum { TIMES = 12 };
+    rng *r = &g->source;
+    unsigned n = 1 + (unsigned)index % STATIONS;
+
+    begin(g, n, 2);
+    for (int time = 0; time < TIMES; time++) {
+        damage_order(r, scene, 0);
+        damage_order(r, scene, 1);
+        set_set(scene + OFF_AT, part_of(r, part_of(r, all_stations(n))));
+        damage_round(r, scene, (unsigned)rng_below(r, 4));
+        call_on_scene(g, call_plan(0));
+        make(g, call_plan(1));
+    }
+}
+
+/* The copy of item 0 at the station: its sets have the lowest of the stations on
+ * the bus, and the last of so many. */
+static void set_copy_up_to(rng *r, unsigned station, uint64_t generation, unsigned on,
+                           unsigned count)
+{
+    unsigned puts = 1 + (unsigned)rng_below(r, set_size(on));
+    uint8_t config[CONFIGURATION] = {0};
+
+    configuration_set_to(config, READ_SIDE, set_up_to(r, on, count));
+    configuration_set_to(config, WRITE_SIDE, set_up_to(r, on, puts));
+    set_number(scene_copy(0, station) + GENERATION_IN, 8, generation);
+    memcpy(scene_copy(0, station) + CONFIGURATION_IN, config, CONFIGURATION);
+}
+
+/* Starts that are heard, longer ones that are not, since a newer copy comes, and
+ * still longer ones that are again; then the station of that copy is off, then
+ * the one that it waits for. */
+static void heard_and_lost(generator *g, uint64_t index)
+{
+    rng *r = &g->source;
+    unsigned n = 3 + (unsigned)index % (STATIONS - 2);
+    unsigned on = all_stations(n);
+    unsigned newer = 1 + (unsigned)rng_below(r, n - 2);
+    unsigned awaited = newer + 1 + (unsigned)rng_below(r, n - newer - 1);
+
+    begin(g, n, 2);
+    for (unsigned station = 0; station < n; station++) {
+        set_copy_up_to(r, station, 0, on, 1 + (unsigned)rng_below(r, newer));
+    }
+    set_copy_up_to(r, newer, 1, on, awaited + 1);
+    call_on_scene(g, call_plan(0));
+    set_set(scene + OFF_AT, 1u << newer);
+    call_on_scene(g, call_plan(0));
+    set_set(scene + OFF_AT, 1u << awaited);
+    call_on_scene(g, call_plan(0));
+    call_on_scene(g, call_reach(0));
 }
 
 /* ---- Stations not linked since the lay ---- */
@@ -973,13 +1108,15 @@ static void open_laid(generator *g, const laid_house *h)
     }
 }
 
-/* What shows who is off: the reach of every item, and a round that turns to
- * every station and is given up. */
+/* What shows who is off: the reach of every item, a plan, and a round that turns
+ * to every station, has a plan too and is given up. */
 static void look_at_stations(generator *g, const laid_house *h)
 {
     reach_all(g, h->m);
+    make(g, call_plan(0));
     open_laid(g, h);
     poll_all(g, h->n);
+    make(g, call_plan(h->m - 1));
     put_both(g, h->n);
     make(g, call_abandon());
 }
@@ -1007,6 +1144,7 @@ static void late_links(generator *g, uint64_t index)
         link_one(g, &unlinked);
         poll_all(g, h.n);
         make(g, call_reach(h.m - 1));
+        make(g, call_plan(h.m - 1));
     }
     put_both(g, h.n);
     make(g, call_commit());
@@ -1067,6 +1205,9 @@ static const group GROUPS[] = {
     {many_refusals, (uint64_t)64 * 7 * 3},
     {moves, (uint64_t)20 * (STATIONS - 1)},
     {left_behind, (uint64_t)40 * (STATIONS - 1)},
+    {every_figure, (uint64_t)3 * STATIONS},
+    {any_order, (uint64_t)20 * STATIONS},
+    {heard_and_lost, (uint64_t)20 * (STATIONS - 2)},
     {first_links, LAID_LISTS},
     {late_links, LAID_LISTS},
     {laid_again, LAID_LISTS},

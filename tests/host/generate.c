@@ -102,13 +102,19 @@ call generate_any_call(generator *g, unsigned n, unsigned m)
 
 /* ---- Calls that fit where the round stands ---- */
 
-/* A station returns; with none off, and now and then with none on, the call is
- * a reach. */
+/* What can be done with the item: its reach, or a plan. */
+static call ask_of(rng *r, unsigned item)
+{
+    return rng_one_in(r, 3) ? call_plan(item) : call_reach(item);
+}
+
+/* A station returns; with none off, and now and then with none on, a reach or a
+ * plan is asked. */
 static call return_station(generator *g, const outlook *o)
 {
     rng *r = &g->source;
     bool asks = o->off == 0 || (o->on == 0 && rng_one_in(r, 5));
-    return asks ? call_reach(rng_below(r, o->m))
+    return asks ? ask_of(r, (unsigned)rng_below(r, o->m))
                 : call_link(station_of(r, o->off), OSPREYSCREEN_LINK_ON);
 }
 
@@ -249,16 +255,16 @@ static unsigned last_to_know(const outlook *o, unsigned item)
 }
 
 /* The next of the stations that go off together, and behind the last the reach
- * of the item. */
+ * of the item, or its plan. */
 static call next_leaving(generator *g, const outlook *o)
 {
     g->leaving &= o->on;
     return g->leaving != 0 ? call_link(station_of(&g->source, g->leaving), OSPREYSCREEN_LINK_OFF)
-                           : call_reach(g->left_item);
+                           : ask_of(&g->source, g->left_item);
 }
 
-/* The reach of an item; those that are the last to know of its last change
- * leave first. */
+/* The reach or the plan of an item; those that are the last to know of its last
+ * change leave first. */
 static call leave(generator *g, const outlook *o)
 {
     g->left_item = (unsigned)rng_below(&g->source, o->m);
@@ -310,6 +316,9 @@ call generate_call(generator *g)
     case 11:
     case 12:
         return call_diagnose();
+    case 13:
+    case 14:
+        return call_plan(rng_below(r, o.m));
     default:
         return next_step(g, &o);
     }
@@ -431,7 +440,19 @@ static void damage(generator *g, unsigned n, unsigned m)
     }
 }
 
-/* Ties and counters at the ends of their range; the table stays sound. */
+/* An item whose copies differ from station to station, and its plan. */
+static void mix_copies(generator *g, by_hand *b)
+{
+    unsigned item = (unsigned)rng_below(&g->source, b->bytes[M_AT]);
+
+    damage_order(&g->source, b->bytes, item);
+    set_table(g, b);
+    call c = call_plan(item);
+    generate_step(g, &c);
+}
+
+/* Ties, copies that differ, and counters at the ends of their range; the table
+ * stays sound. */
 static void tie(generator *g)
 {
     rng *r = &g->source;
@@ -439,6 +460,10 @@ static void tie(generator *g)
 
     take_table(g, &b);
     if (ref_broken(b.bytes, b.len) != 0 || !rng_one_in(r, 20)) {
+        return;
+    }
+    if (rng_one_in(r, 4)) {
+        mix_copies(g, &b);
         return;
     }
     if (rng_one_in(r, 4)) {

@@ -22,7 +22,7 @@ typedef struct {
     /* How often stations drop: once in so many calls. */
     unsigned drops;
     unsigned to_link; /* the stations that are linked first after the lay */
-    /* The stations that go off together, and the item whose reach is asked then. */
+    /* The stations that go off together, and the item that is asked of then. */
     unsigned leaving;
     unsigned left_item;
     uint64_t last; /* the number of the last reply */

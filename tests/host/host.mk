@@ -88,8 +88,8 @@ CHECKED_PROGRAMS := differential votes_trial runner ref_runner
 EXAMPLES := examples/first_reading examples/season examples/votes
 
 LISTS := calls.o configurations.o damage.o draw.o generate.o guard.o lists.o outlook.o recorder.o reference.o runs.o
-DIFFERENTIAL := differential.o book.o diagnose.o directed.o optimised.o options.o reach.o season.o tally.o trial.o \
-    watch.o $(LISTS)
+DIFFERENTIAL := differential.o attempt.o book.o diagnose.o directed.o optimised.o options.o plan.o reach.o season.o \
+    tally.o trial.o watch.o $(LISTS)
 VOTES_TRIAL := votes_trial.o calls.o configurations.o guard.o optimised.o optimised_votes.o searched_votes.o \
     options.o ref_votes.o votes_cases.o votes_opinion.o votes_tally.o watch.o
 OBJECTS_differential := $(DIFFERENTIAL) $(LIBRARY)

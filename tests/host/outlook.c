@@ -64,6 +64,12 @@ bool outlook_tie(const outlook *o, unsigned item, unsigned among, counter by)
     return false;
 }
 
+bool outlook_spent(const outlook *o, unsigned item, unsigned among, counter by)
+{
+    const uint8_t *newest = outlook_newest(o, item, among, by);
+    return newest != NULL && get_number(newest + by, 8) == UINT64_MAX;
+}
+
 const uint8_t *outlook_configuration(const outlook *o, unsigned item, unsigned among)
 {
     const uint8_t *newest = outlook_newest(o, item, among, COUNTER_GENERATION);
@@ -78,4 +84,22 @@ uint64_t outlook_reach(const outlook *o, unsigned item, unsigned among)
     }
     return configuration_holds(config, WRITE_SIDE, o->on) ? OSPREYSCREEN_REACH_READ_AND_WRITE
                                                           : OSPREYSCREEN_REACH_READ;
+}
+
+bool outlook_heard(const outlook *o, unsigned item, unsigned among)
+{
+    const uint8_t *config = outlook_configuration(o, item, among);
+    return config != NULL && configuration_holds(config, READ_SIDE, among);
+}
+
+unsigned outlook_heard_start(const outlook *o, unsigned item)
+{
+    unsigned size = set_size(o->on);
+    for (unsigned count = 1; count <= size; count++) {
+        unsigned start = lowest_stations(o->on, count);
+        if (outlook_heard(o, item, start)) {
+            return start;
+        }
+    }
+    return 0;
 }

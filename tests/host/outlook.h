@@ -35,10 +35,20 @@ const uint8_t *outlook_newest(const outlook *o, unsigned item, unsigned among, c
  * what comes with it. */
 bool outlook_tie(const outlook *o, unsigned item, unsigned among, counter by);
 
+/* Whether the highest counter among the stations is at the end of its range. */
+bool outlook_spent(const outlook *o, unsigned item, unsigned among, counter by);
+
 /* The configuration of the newest copy, or a null pointer. */
 const uint8_t *outlook_configuration(const outlook *o, unsigned item, unsigned among);
 
 /* What the stations on the bus can do by that configuration: a figure of reach. */
 uint64_t outlook_reach(const outlook *o, unsigned item, unsigned among);
+
+/* Whether the stations are heard by what their copies give. */
+bool outlook_heard(const outlook *o, unsigned item, unsigned among);
+
+/* The first start of the rising order of the stations on the bus that is heard;
+ * none if there is no such. */
+unsigned outlook_heard_start(const outlook *o, unsigned item);
 
 #endif

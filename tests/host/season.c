@@ -38,6 +38,7 @@ typedef enum { RISING, FALLING, ANY_ORDER, ORDERS } order;
 typedef struct {
     order takes;
     bool watches;      /* the bus, and keeps off stations that are off */
+    bool plans;        /* its rounds, and goes by the plan as far as that goes */
     unsigned patience; /* tries before it gives up */
     unsigned learns;   /* once in so many rounds it notes the read set it heard */
     unsigned known[OSPREYSCREEN_ITEMS_MAX]; /* the read set last noted, by item */
@@ -75,7 +76,7 @@ static outlook look(const season *s)
 
 /* The stations of a new table are linked when their time comes: all at once or
  * one by one, and some late, when tasks have long begun. */
-static void plan_first_links(season *s)
+static void time_first_links(season *s)
 {
     uint64_t span = rng_one_in(s->r, 2) ? 1 : 4 * look(s).n;
 
@@ -89,7 +90,7 @@ static ospreyscreen_reply record(season *s, call c)
 {
     ospreyscreen_reply reply = record_call(&s->g->to, &c, draw_place(s->r));
     if (c.code == OSPREYSCREEN_LAY && reply.number == OSPREYSCREEN_DONE) {
-        plan_first_links(s);
+        time_first_links(s);
     }
     return reply;
 }
@@ -130,6 +131,7 @@ static void move_stations(season *s)
             l->turns = now(s) + span_off(s->r, l);
             if (rng_one_in(s->r, 2)) {
                 record(s, call_reach(choose_item(s)));
+                record(s, call_plan(choose_item(s)));
             }
         }
     }
@@ -151,6 +153,7 @@ static void drop_section(season *s)
         s->lines[station].turns = now(s) + span + rng_below(r, 8);
     }
     record(s, call_reach(choose_item(s)));
+    record(s, call_plan(choose_item(s)));
 }
 
 /* ---- What comes between the steps of a round ---- */
@@ -212,7 +215,7 @@ static call mistake(season *s, const outlook *o)
     uint64_t station = draw_odd(r, o->n);
     uint64_t any = rng_below(r, o->n);
 
-    switch (rng_below(r, 10)) {
+    switch (rng_below(r, 11)) {
     case 0:
         return call_open_read(item);
     case 1:
@@ -231,6 +234,8 @@ static call mistake(season *s, const outlook *o)
         return call_link(any, draw_odd(r, 2));
     case 8:
         return call_reach(item);
+    case 9:
+        return call_plan(item);
     default:
         return false_lay(s, o);
     }
@@ -269,7 +274,7 @@ static call slip(season *s, const outlook *o)
  * it falls between any two steps of a round. */
 static ospreyscreen_reply make(season *s, call c)
 {
-    enum { REACHES = 25, DIAGNOSES = 25 };
+    enum { REACHES = 25, DIAGNOSES = 25, PLANS = 25 };
 
     move_stations(s);
     if (rng_one_in(s->r, s->weather->sections)) {
@@ -283,6 +288,9 @@ static ospreyscreen_reply make(season *s, call c)
     }
     if (rng_one_in(s->r, DIAGNOSES)) {
         record(s, call_diagnose());
+    }
+    if (rng_one_in(s->r, PLANS)) {
+        record(s, call_plan(choose_item(s)));
     }
     if (rng_one_in(s->r, s->weather->slips)) {
         outlook o = look(s);
@@ -479,16 +487,40 @@ static bool open_round(season *s, call opening)
     return false;
 }
 
-/* Opens a round and takes it to its commit. If that is short, since puts are
- * gone with their stations, the task may ask what holds the round up; it polls
- * and goes on. In the end it gives up, or hangs. */
-static void play_round(season *s, task *t, call opening)
+/* Takes the stations on the bus in rising number: as many polls as the plan says,
+ * and in a write as many puts. */
+static void follow_plan(season *s, const ospreyscreen_reply *told)
+{
+    outlook o = look(s);
+
+    for (uint64_t made = 0; made < told->first && (o.on & ~o.polled) != 0; made++) {
+        make(s, call_poll((unsigned)__builtin_ctz(o.on & ~o.polled)));
+        o = look(s);
+    }
+    for (uint64_t made = 0; made < told->second && (o.on & ~o.data_puts) != 0; made++) {
+        if (o.round != OSPREYSCREEN_ROUND_WRITE) {
+            return;
+        }
+        make(s, call_put((unsigned)__builtin_ctz(o.on & ~o.data_puts), OSPREYSCREEN_PUT_DATA));
+        o = look(s);
+    }
+}
+
+/* What a task that does not plan goes by: no polls and no puts. */
+static const ospreyscreen_reply NO_PLAN = {.number = OSPREYSCREEN_OUT_OF_HEARING};
+
+/* Opens a round and takes it to its commit, by the plan and on from where that
+ * ends. If the commit is short, since puts are gone with their
+ * stations, the task may ask what holds the round up; it polls and goes on. In
+ * the end it gives up, or hangs. */
+static void play_round(season *s, task *t, call opening, const ospreyscreen_reply *told)
 {
     enum { ATTEMPTS = 3 };
 
     if (!open_round(s, opening)) {
         return;
     }
+    follow_plan(s, told);
     for (int i = 0; i < ATTEMPTS && poll_enough(s, t) && put_all(s, t); i++) {
         uint64_t number = make(s, call_commit()).number;
         if (number == OSPREYSCREEN_DONE || number == OSPREYSCREEN_IDLE) {
@@ -617,25 +649,33 @@ static void visit(season *s)
             record(s, false_change(s, &o, item));
         }
         draw_sheet(s, &o, item, sheet);
-        play_round(s, &s->tasks[INSTALLER], call_open_change(item, sheet));
+        play_round(s, &s->tasks[INSTALLER], call_open_change(item, sheet), &NO_PLAN);
     }
 }
 
 /* ---- The season ---- */
 
-/* A task's read or write. One that watches the bus asks for reach first, and
- * most likely lets it be if nothing can be read. */
+/* A task's read or write. One that watches the bus asks for reach first, one
+ * that plans for a plan; it most likely lets it be if nothing can be read. */
 static void work(season *s, unsigned who)
 {
     task *t = &s->tasks[who];
     unsigned item = choose_item(s);
     bool reads = who == DASHBOARD || rng_one_in(s->r, 4);
+    bool stays = rng_one_in(s->r, 4);
+    ospreyscreen_reply told = NO_PLAN;
 
     if (t->watches && rng_one_in(s->r, 2) &&
-        make(s, call_reach(item)).first == OSPREYSCREEN_REACH_NOTHING && !rng_one_in(s->r, 4)) {
+        make(s, call_reach(item)).first == OSPREYSCREEN_REACH_NOTHING && !stays) {
         return;
     }
-    play_round(s, t, reads ? call_open_read(item) : call_open_write(item, draw_value(s->r)));
+    if (t->plans) {
+        told = make(s, call_plan(item));
+        if (told.number == OSPREYSCREEN_OUT_OF_HEARING && !stays) {
+            return;
+        }
+    }
+    play_round(s, t, reads ? call_open_read(item) : call_open_write(item, draw_value(s->r)), &told);
 }
 
 /* Each station has its own; the house as a whole has the weather's drops. */
@@ -654,6 +694,7 @@ static task draw_task(rng *r, unsigned n)
     task t = {.takes = (order)rng_below(r, ORDERS)};
 
     t.watches = rng_one_in(r, 2);
+    t.plans = rng_one_in(r, 2);
     t.patience = n + 6 + (unsigned)rng_below(r, 40);
     t.learns = 1 + (unsigned)rng_below(r, 8);
     return t;

@@ -6,6 +6,7 @@
 
 #include <inttypes.h>
 #include <stdio.h>
+#include <string.h>
 
 enum {
     RANDOM = 1 << FORM_RANDOM,
@@ -44,6 +45,24 @@ static const meter_row METERS[MET_COUNT] = {
     [MET_DIAGNOSE_LATER_SET] = {"diagnoses where a later read set is held too", ALL},
     [MET_DIAGNOSE_HELD] = {"diagnoses held to a commit on a copy of the table", LISTS},
     [MET_DIAGNOSE_BOOK] = {"diagnoses of a heard round whose station has the book's reading", LISTS},
+    [MET_PLAN_FEWER_PUTS] = {"plans of fewer puts than polls", ALL},
+    [MET_PLAN_MORE_PUTS] = {"plans of more puts than polls", ALL},
+    [MET_PLAN_CHANGES] = {"plans where the configuration found changes from poll to poll", ALL},
+    [MET_PLAN_PASSES_OFF] = {"plans whose polls pass a station off the bus", ALL},
+    [MET_PLAN_IN_ROUND] = {"plans of another item than that of the open round", ALL},
+    [MET_PLAN_OF_POLLED] = {"plans of an item whose open round has polled", ALL},
+    [MET_PLAN_NOBODY] = {"plans out of hearing, nobody on the bus", ALL},
+    [MET_PLAN_UNHEARD] = {"plans out of hearing with stations on the bus", ALL},
+    [MET_PLAN_TIE] = {"plans that found a tie by generation, configurations different", BY_HAND},
+    [MET_PLAN_LEFT] = {"plans where a copy off the bus has a newer configuration", BY_HAND},
+    [MET_PLAN_LOST] = {"plans where some more polls are unheard again", BY_HAND},
+    [MET_PLAN_AGAIN] = {"plans where more polls are unheard again, and still more heard", BY_HAND},
+    [MET_PLAN_OTHER_PUTS] = {"plans of other puts than if all on the bus were polled", BY_HAND},
+    [MET_PLAN_HELD] = {"plans held to rounds on copies of the table", LISTS},
+    [MET_PLAN_OUT_HELD] = {"plans out of hearing held to polls of all stations", LISTS},
+    [MET_PLAN_BOOK] = {"planned reads compared with the book, and plans with the reach", LISTS},
+    [MET_PLAN_SPENT_VERSION] = {"plans with the version spent", BY_HAND},
+    [MET_PLAN_SPENT_GENERATION] = {"plans with the generation spent", BY_HAND},
     [MET_DISJOINT_MOVE] = {"changes to disjoint stations", ALL},
     [MET_MISSING_MOVE] = {"changes where every old write set misses every new read set", ALL},
     [MET_STALE_POLL] = {"polls of a copy older than one polled before", ALL},
@@ -223,6 +242,58 @@ static void look_at_diagnose(sight *s, const outlook *o)
     s->met[MET_DIAGNOSE_LATER_SET] = held > 1;
 }
 
+/* Puts at the stations on the bus, from the lowest on, until they hold a write
+ * set of the configuration; 0 if all do not. */
+static unsigned puts_for(const outlook *o, const uint8_t *config)
+{
+    unsigned size = set_size(o->on);
+    for (unsigned puts = 1; puts <= size; puts++) {
+        if (configuration_holds(config, WRITE_SIDE, lowest_stations(o->on, puts))) {
+            return puts;
+        }
+    }
+    return 0;
+}
+
+/* What longer starts than the one that is heard first come to. */
+static void look_behind_plan(sight *s, const outlook *o, unsigned item, unsigned start)
+{
+    unsigned size = set_size(o->on);
+    for (unsigned count = set_size(start); count <= size; count++) {
+        bool heard = outlook_heard(o, item, lowest_stations(o->on, count));
+        s->met[MET_PLAN_LOST] |= !heard;
+        s->met[MET_PLAN_AGAIN] |= heard && s->met[MET_PLAN_LOST];
+    }
+}
+
+/* What the start that is heard first has found, and who is off. */
+static void look_at_plan(sight *s, const outlook *o, const call *c)
+{
+    uint64_t asked = c->numbers[ARGUMENT_ITEM];
+    unsigned start = asked < o->m ? outlook_heard_start(o, (unsigned)asked) : 0;
+
+    s->nobody = o->on == 0;
+    if (start == 0) {
+        return;
+    }
+    unsigned item = (unsigned)asked;
+    const uint8_t *found = outlook_configuration(o, item, start);
+    const uint8_t *first = outlook_configuration(o, item, lowest_stations(start, 1));
+    const uint8_t *last = outlook_configuration(o, item, o->on);
+    const uint8_t *newest = outlook_configuration(o, item, all_stations(o->n));
+    bool open = o->round != OSPREYSCREEN_ROUND_NONE;
+    s->met[MET_PLAN_CHANGES] = memcmp(found, first, CONFIGURATION) != 0;
+    s->met[MET_PLAN_PASSES_OFF] = o->off != 0 && lowest_stations(o->off, 1) < start;
+    s->met[MET_PLAN_IN_ROUND] = open && o->item != item;
+    s->met[MET_PLAN_OF_POLLED] = open && o->item == item && o->polled != 0;
+    s->met[MET_PLAN_TIE] = !s->covered && outlook_tie(o, item, start, COUNTER_GENERATION);
+    s->met[MET_PLAN_LEFT] = !s->covered && memcmp(found, newest, CONFIGURATION) != 0;
+    s->met[MET_PLAN_OTHER_PUTS] = !s->covered && puts_for(o, found) != puts_for(o, last);
+    if (!s->covered) {
+        look_behind_plan(s, o, item, start);
+    }
+}
+
 sight tally_look(const tally *t, const call *c, const loan *table, bool covered)
 {
     sight s = {.covered = covered};
@@ -253,6 +324,9 @@ sight tally_look(const tally *t, const call *c, const loan *table, bool covered)
     case OSPREYSCREEN_DIAGNOSE:
         look_at_diagnose(&s, &o);
         break;
+    case OSPREYSCREEN_PLAN:
+        look_at_plan(&s, &o, c);
+        break;
     default:
         break;
     }
@@ -274,6 +348,14 @@ static void count_diagnose(tally *t, const ospreyscreen_reply *reply)
     t->places[reply->third]++;
 }
 
+static void count_plan(tally *t, const ospreyscreen_reply *reply)
+{
+    t->plan_polls[reply->first]++;
+    t->plan_puts[reply->second]++;
+    t->met[MET_PLAN_FEWER_PUTS] += reply->second != 0 && reply->second < reply->first;
+    t->met[MET_PLAN_MORE_PUTS] += reply->second > reply->first;
+}
+
 /* The reply is the reference's too, so that its figures are in range. */
 static void count_done(tally *t, const sight *s, const call *c, const ospreyscreen_reply *reply)
 {
@@ -288,6 +370,9 @@ static void count_done(tally *t, const sight *s, const call *c, const ospreyscre
     }
     if (c->code == OSPREYSCREEN_DIAGNOSE) {
         count_diagnose(t, reply);
+    }
+    if (c->code == OSPREYSCREEN_PLAN) {
+        count_plan(t, reply);
     }
     if (c->code == OSPREYSCREEN_REACH) {
         t->met[MET_REACH_NOTHING] += reply->first == OSPREYSCREEN_REACH_NOTHING;
@@ -322,6 +407,11 @@ static void count_refused(tally *t, const sight *s, const call *c, uint64_t numb
     if (number == OSPREYSCREEN_OFF_THE_BUS) {
         t->met[MET_UNLINKED_POLL] += s->unlinked && c->code == OSPREYSCREEN_POLL;
         t->met[MET_UNLINKED_PUT] += s->unlinked && c->code == OSPREYSCREEN_PUT;
+    }
+    if (number == OSPREYSCREEN_OUT_OF_HEARING) {
+        t->plan_polls[0]++;
+        t->met[MET_PLAN_NOBODY] += s->nobody;
+        t->met[MET_PLAN_UNHEARD] += !s->nobody;
     }
     if (number == OSPREYSCREEN_UNSOUND && c->code != OSPREYSCREEN_LAY) {
         count_alone(t, s->broken);
@@ -391,7 +481,7 @@ static bool form_meets(form f, int m)
     return (METERS[m].forms >> f & 1) != 0;
 }
 
-/* A row for each number, a column for each call. */
+/* A row for each number that a call gives, a column for each call. */
 static void print_replies(FILE *to, const tally *t, form f)
 {
     fprintf(to, "%-8s%11s", "number", "replies");
@@ -400,8 +490,13 @@ static void print_replies(FILE *to, const tally *t, form f)
     }
     for (uint64_t number = 0; number < REPLY_NUMBERS; number++) {
         uint64_t all = 0;
+        bool given = false;
         for (int i = 0; i < CALL_COUNT; i++) {
             all += t->replies[CALLS[i].code][number];
+            given |= call_can_give(&CALLS[i], number);
+        }
+        if (!given) {
+            continue;
         }
         fprintf(to, "\n%-8" PRIu64 "%11" PRIu64, number, all);
         for (int i = 0; i < CALL_COUNT; i++) {
@@ -427,7 +522,8 @@ static void print_commits(FILE *to, const tally *t)
     }
 }
 
-/* Replies by a figure that is one plus a station or a place, or 0. */
+/* Replies by a figure that is one plus a station or a place, or a number of
+ * stations; or 0. */
 typedef struct {
     const char *name;
     unsigned forms; /* that should meet every figure */
@@ -435,13 +531,15 @@ typedef struct {
     int count;
 } by_figure;
 
-enum { BY_FIGURE = 3 };
+enum { BY_FIGURE = 5 };
 
 static void by_figures(const tally *t, by_figure rows[BY_FIGURE])
 {
     rows[0] = (by_figure){"polls by read place", ALL, t->polls, PLACE_COUNTS};
     rows[1] = (by_figure){"diagnoses by read place", ALL, t->places, PLACE_COUNTS};
     rows[2] = (by_figure){"diagnoses by station", LISTS, t->stations, STATION_COUNTS};
+    rows[3] = (by_figure){"plans by polls", DIRECTED | SEASON, t->plan_polls, STATION_COUNTS};
+    rows[4] = (by_figure){"plans by puts", DIRECTED | SEASON, t->plan_puts, STATION_COUNTS};
 }
 
 static void print_figures(FILE *to, const tally *t)

@@ -40,6 +40,24 @@ typedef enum {
     MET_DIAGNOSE_LATER_SET,
     MET_DIAGNOSE_HELD,
     MET_DIAGNOSE_BOOK,
+    MET_PLAN_FEWER_PUTS,
+    MET_PLAN_MORE_PUTS,
+    MET_PLAN_CHANGES,
+    MET_PLAN_PASSES_OFF,
+    MET_PLAN_IN_ROUND,
+    MET_PLAN_OF_POLLED,
+    MET_PLAN_NOBODY,
+    MET_PLAN_UNHEARD,
+    MET_PLAN_TIE,
+    MET_PLAN_LEFT,
+    MET_PLAN_LOST,
+    MET_PLAN_AGAIN,
+    MET_PLAN_OTHER_PUTS,
+    MET_PLAN_HELD,
+    MET_PLAN_OUT_HELD,
+    MET_PLAN_BOOK,
+    MET_PLAN_SPENT_VERSION,
+    MET_PLAN_SPENT_GENERATION,
     MET_DISJOINT_MOVE,
     MET_MISSING_MOVE,
     MET_STALE_POLL,
@@ -74,6 +92,9 @@ typedef struct {
     uint64_t polls[PLACE_COUNTS];
     uint64_t stations[STATION_COUNTS];
     uint64_t places[PLACE_COUNTS];
+    /* Plans by polls, 0 for out of hearing, and done ones by puts. */
+    uint64_t plan_polls[STATION_COUNTS];
+    uint64_t plan_puts[STATION_COUNTS];
     uint64_t alone[BROKEN_CLAUSES]; /* calls on a table that breaks this clause and no other */
     uint64_t met[MET_COUNT];
     /* Followed from call to call while the book covers the list. */
@@ -90,6 +111,7 @@ typedef struct {
     bool lacks_data;
     bool lacks_configuration;
     bool unlinked; /* its station is not linked since the lay */
+    bool nobody;   /* is on the bus */
     bool covered;
 } sight;
 

@@ -1,6 +1,7 @@
 #include "trial.h"
 
 #include "diagnose.h"
+#include "plan.h"
 #include "reach.h"
 #include "watch.h"
 
@@ -15,12 +16,6 @@ trial trial_make(const implementation *tested, const implementation *reference)
 }
 
 /* ---- One step ---- */
-
-static bool same_reply(const ospreyscreen_reply *a, const ospreyscreen_reply *b)
-{
-    return a->number == b->number && a->first == b->first && a->second == b->second &&
-           a->third == b->third;
-}
 
 /* What a read of the item that finishes now replies by the book. */
 static ospreyscreen_reply read_in_book(const trial *t, uint64_t item)
@@ -68,6 +63,22 @@ static const char *hold_reach(const trial *t, const call *c, tally *counts)
                     .figure = t->got.first,
                     .book = t->covered ? &read : NULL};
     return reach_hold(t->tested.with, &said, counts);
+}
+
+/* Holds a plan that is done or out of hearing to what it says. */
+static const char *hold_plan(const trial *t, const call *c, tally *counts)
+{
+    bool done = t->got.number == OSPREYSCREEN_DONE;
+    if (c->code != OSPREYSCREEN_PLAN || (!done && t->got.number != OSPREYSCREEN_OUT_OF_HEARING)) {
+        return NULL;
+    }
+    uint64_t item = c->numbers[ARGUMENT_ITEM];
+    ospreyscreen_reply read = read_in_book(t, item);
+    planned said = {.table = &t->tested.lent[LENT_TABLE],
+                    .item = item,
+                    .told = &t->got,
+                    .book = t->covered ? &read : NULL};
+    return plan_hold(t->tested.with, &said, counts);
 }
 
 /* What the tested implementation tells of the open round now. */
@@ -149,8 +160,8 @@ static const char *compare_call(trial *t, const step *s, tally *counts)
     return NULL;
 }
 
-/* One call: compared, held to the book, and a reach or a diagnose to what it
- * says. */
+/* One call: compared, held to the book, and a reach, a diagnose or a plan to
+ * what it says. */
 static const char *make_call(trial *t, const step *s, tally *counts)
 {
     const call *c = &s->made;
@@ -167,7 +178,10 @@ static const char *make_call(trial *t, const step *s, tally *counts)
         return "a finished round differs from the book";
     }
     wrong = hold_to_diagnose(t, c, &told, counts);
-    return wrong != NULL ? wrong : hold_reach(t, c, counts);
+    if (wrong == NULL) {
+        wrong = hold_reach(t, c, counts);
+    }
+    return wrong == NULL ? hold_plan(t, c, counts) : wrong;
 }
 
 /* Does to both tables what the step says. */
