@@ -144,6 +144,11 @@ FOR_EACH_SIDE uint64_t diagnose(const implementation *with, scene *s)
     return reply.number | reply.first;
 }
 
+FOR_EACH_SIDE uint64_t plan(const implementation *with, scene *s)
+{
+    return with->plan(s->table, s->len, 0).number;
+}
+
 FOR_EACH_SIDE uint64_t links(const implementation *with, scene *s)
 {
     uint64_t numbers = 0;
@@ -153,14 +158,25 @@ FOR_EACH_SIDE uint64_t links(const implementation *with, scene *s)
     return numbers;
 }
 
-/* The stations of the first sets stay on the bus, the others go. */
-FOR_EACH_SIDE uint64_t drops(const implementation *with, scene *s)
+/* The stations from this one on go off the bus. */
+FOR_EACH_SIDE uint64_t drops_from(const implementation *with, scene *s, unsigned station)
 {
     uint64_t numbers = 0;
-    for (unsigned station = s->quorum; station < s->n; station++) {
+    for (; station < s->n; station++) {
         numbers |= with->link(s->table, s->len, station, OSPREYSCREEN_LINK_OFF).number;
     }
     return numbers;
+}
+
+/* The stations of the first sets stay on the bus, or all of them but one. */
+FOR_EACH_SIDE uint64_t drops(const implementation *with, scene *s)
+{
+    return drops_from(with, s, s->quorum);
+}
+
+FOR_EACH_SIDE uint64_t drops_and_one_more(const implementation *with, scene *s)
+{
+    return drops_from(with, s, s->quorum - 1);
 }
 
 FOR_EACH_SIDE uint64_t polls(const implementation *with, scene *s)
@@ -215,6 +231,18 @@ FOR_EACH_SIDE uint64_t write_round(const implementation *with, scene *s)
 FOR_EACH_SIDE uint64_t change_round(const implementation *with, scene *s)
 {
     return change_to_commit(with, s) | commit(with, s);
+}
+
+/* Each station's copy of the item has a higher generation than the one below. */
+FOR_EACH_SIDE uint64_t rising_generations(const implementation *with, scene *s)
+{
+    uint8_t *copy = s->table + OSPREYSCREEN_HEAD_LENGTH;
+
+    (void)with;
+    for (unsigned station = 0; station < s->n; station++, copy += OSPREYSCREEN_COPY_LENGTH) {
+        copy[16] = (uint8_t)station;
+    }
+    return 0;
 }
 
 /* ---- Runs that are refused, and what goes before them ---- */
@@ -293,6 +321,7 @@ EACH_SIDE(abandon)
 EACH_SIDE(link_last)
 EACH_SIDE(reach)
 EACH_SIDE(diagnose)
+EACH_SIDE(plan)
 EACH_SIDE(read_round)
 EACH_SIDE(write_round)
 EACH_SIDE(change_round)
@@ -321,6 +350,9 @@ static const row ROWS[] = {
     {"diagnose", write_to_commit, BY_SIDE(diagnose), NOTHING, OSPREYSCREEN_DONE},
     {"diagnose, short", write_to_puts, BY_SIDE(diagnose), NOTHING, OSPREYSCREEN_SHORT},
     {"diagnose, unheard", open_write, BY_SIDE(diagnose), NOTHING, OSPREYSCREEN_UNHEARD},
+    {"plan", nothing, BY_SIDE(plan), NOTHING, OSPREYSCREEN_DONE},
+    {"plan, stations off", drops, BY_SIDE(plan), NOTHING, OSPREYSCREEN_DONE},
+    {"plan, generations rising", rising_generations, BY_SIDE(plan), NOTHING, OSPREYSCREEN_DONE},
     {"read round", nothing, BY_SIDE(read_round), NOTHING, OSPREYSCREEN_DONE},
     {"write round", nothing, BY_SIDE(write_round), NOTHING, OSPREYSCREEN_DONE},
     {"change round", nothing, BY_SIDE(change_round), HEAD_AND_ITEM, OSPREYSCREEN_DONE},
@@ -338,6 +370,7 @@ static const row ROWS[] = {
     {"wrong put", read_to_commit, BY_SIDE(put_last), NOTHING, OSPREYSCREEN_WRONG_PUT},
     {"spent", spend_version, BY_SIDE(put_last), NOTHING, OSPREYSCREEN_SPENT},
     {"short", write_to_puts, BY_SIDE(commit), NOTHING, OSPREYSCREEN_SHORT},
+    {"out of hearing", drops_and_one_more, BY_SIDE(plan), NOTHING, OSPREYSCREEN_OUT_OF_HEARING},
 };
 enum { ROW_COUNT = sizeof ROWS / sizeof ROWS[0] };
 
