@@ -7,9 +7,10 @@
  * with a plain record that this program keeps for itself.
  *
  * The parts to copy are wire, which links the stations, advice_on, which has a
- * branch for every number that a call can give, run_round, which brings a
- * round to its end, print_diagnosis, which says what held it up if it has to be
- * given up, and retire, which asks for reach before a station goes for good.
+ * branch for every number that a call can give, print_plan, which says what a
+ * round will take, run_round, which brings a round to its end, print_diagnosis,
+ * which says what held it up if it has to be given up, and retire, which asks
+ * for reach before a station goes for good.
  */
 #include "ospreyscreen.h"
 
@@ -68,16 +69,17 @@ typedef enum {
     CLOSE_FIRST,   /* commit or abandon the round that is open, then open again */
     OPEN_FIRST,    /* there is no round: open one */
     READ_ONLY,     /* the item's counter is at its end: it can be read only */
+    WAIT,          /* a round could not be heard now: open none until a station comes on */
     RESTORE,       /* the table was damaged: bring back a saved one, or lay anew */
     MEND_PROGRAM   /* a wrong argument or a call in the wrong round */
 } advice;
 
-static unsigned long seen[OSPREYSCREEN_FALSE_FRAME + 1];
+static unsigned long seen[OSPREYSCREEN_OUT_OF_HEARING + 1];
 
 /* The branch of each number. Which call can give which is in the header. */
 static advice advice_on(ospreyscreen_reply reply)
 {
-    if (reply.number <= OSPREYSCREEN_FALSE_FRAME) {
+    if (reply.number <= OSPREYSCREEN_OUT_OF_HEARING) {
         seen[reply.number]++;
     }
     switch (reply.number) {
@@ -105,7 +107,9 @@ static advice advice_on(ospreyscreen_reply reply)
         return READ_ONLY;
     case OSPREYSCREEN_SHORT:
         return PUT_MORE;
-    default: /* 12 comes from the frame runner alone */
+    case OSPREYSCREEN_OUT_OF_HEARING:
+        return WAIT;
+    default: /* 12 comes from the frame runner alone, 13 and 14 from votes */
         return MEND_PROGRAM;
     }
 }
@@ -150,6 +154,24 @@ static uint64_t reach_of(uint64_t item)
     return must("reach", ospreyscreen_reach(table, sizeof table, item)).first;
 }
 
+/* What a round on the item will take if it goes by the stations on the bus from
+ * the lowest up, as the rounds below do. With 0 puts no write can finish. */
+static void print_plan(uint64_t item)
+{
+    ospreyscreen_reply reply = ospreyscreen_plan(table, sizeof table, item);
+
+    switch (advice_on(reply)) {
+    case GO_ON:
+        printf("polls %" PRIu64 ", puts %" PRIu64 "\n", reply.first, reply.second);
+        break;
+    case WAIT:
+        printf("out of hearing\n");
+        break;
+    default:
+        fail("plan", reply);
+    }
+}
+
 /* Links the stations that are wired on the day. Until its link a station is
  * off the bus; one that is linked late has old copies, like one that returns. */
 static void wire(int day)
@@ -158,7 +180,8 @@ static void wire(int day)
         if (wiring_day[s] == day) {
             link_station(s, OSPREYSCREEN_LINK_ON);
             wired = s + 1;
-            printf("day %d, station %" PRIu64 " linked: reach %" PRIu64 "\n", day, s, reach_of(0));
+            printf("day %d, station %" PRIu64 " linked: reach %" PRIu64 ", ", day, s, reach_of(0));
+            print_plan(0);
         }
     }
 }
@@ -191,34 +214,34 @@ typedef struct {
     uint64_t item;
     uint64_t value;
     const configuration *target;
-} plan;
+} job;
 
-static ospreyscreen_reply open_once(const plan *p)
+static ospreyscreen_reply open_once(const job *j)
 {
     uint8_t target[OSPREYSCREEN_CONFIGURATION_LENGTH];
 
-    switch (p->kind) {
+    switch (j->kind) {
     case OSPREYSCREEN_ROUND_WRITE:
-        return ospreyscreen_open_write(table, sizeof table, p->item, p->value);
+        return ospreyscreen_open_write(table, sizeof table, j->item, j->value);
     case OSPREYSCREEN_ROUND_CHANGE:
-        to_bytes(p->target, target);
-        return ospreyscreen_open_change(table, sizeof table, p->item, target, sizeof target);
+        to_bytes(j->target, target);
+        return ospreyscreen_open_change(table, sizeof table, j->item, target, sizeof target);
     default:
-        return ospreyscreen_open_read(table, sizeof table, p->item);
+        return ospreyscreen_open_read(table, sizeof table, j->item);
     }
 }
 
 /* Opens the round; one that somebody left open is given up first. */
-static void open_round(const plan *p)
+static void open_round(const job *j)
 {
-    ospreyscreen_reply reply = open_once(p);
+    ospreyscreen_reply reply = open_once(j);
 
     switch (advice_on(reply)) {
     case GO_ON:
         return;
     case CLOSE_FIRST:
         must("abandon", ospreyscreen_abandon(table, sizeof table));
-        must("open", open_once(p));
+        must("open", open_once(j));
         return;
     default:
         fail("open", reply);
@@ -285,10 +308,10 @@ static bool put_for(enum ospreyscreen_round kind)
  * station that drops takes its put along, so a short round is tried again;
  * one that gets nowhere is abandoned, and no copy has changed. The figures are
  * then those of a diagnose: what held the round up at last. */
-static bool run_round(const plan *p, ospreyscreen_reply *figures)
+static bool run_round(const job *j, ospreyscreen_reply *figures)
 {
-    open_round(p);
-    for (int attempt = 0; attempt < ATTEMPTS && hear() && put_for(p->kind); attempt++) {
+    open_round(j);
+    for (int attempt = 0; attempt < ATTEMPTS && hear() && put_for(j->kind); attempt++) {
         gust();
         *figures = ospreyscreen_commit(table, sizeof table);
         advice next = advice_on(*figures);
@@ -367,27 +390,27 @@ static void check(uint64_t item, ospreyscreen_reply figures)
 }
 
 /* Runs the round and keeps the record beside it. */
-static bool run_and_check(const plan *p)
+static bool run_and_check(const job *j)
 {
     ospreyscreen_reply figures;
 
-    if (!run_round(p, &figures)) {
-        given_up[p->kind]++;
+    if (!run_round(j, &figures)) {
+        given_up[j->kind]++;
         held_up_by[figures.first]++;
-        if (p->kind == OSPREYSCREEN_ROUND_CHANGE) {
-            printf("change of item %" PRIu64 " given up: ", p->item);
+        if (j->kind == OSPREYSCREEN_ROUND_CHANGE) {
+            printf("change of item %" PRIu64 " given up: ", j->item);
             print_diagnosis(figures);
         }
         return false;
     }
-    finished[p->kind]++;
-    if (p->kind == OSPREYSCREEN_ROUND_WRITE) {
-        record[p->item].value = p->value;
-        record[p->item].version++;
-    } else if (p->kind == OSPREYSCREEN_ROUND_CHANGE) {
-        record[p->item].generation++;
+    finished[j->kind]++;
+    if (j->kind == OSPREYSCREEN_ROUND_WRITE) {
+        record[j->item].value = j->value;
+        record[j->item].version++;
+    } else if (j->kind == OSPREYSCREEN_ROUND_CHANGE) {
+        record[j->item].generation++;
     }
-    check(p->item, figures);
+    check(j->item, figures);
     return true;
 }
 
@@ -404,7 +427,8 @@ static void lay_house(void)
     for (size_t i = 0; i < ITEMS; i++) {
         record[i].value = START;
     }
-    printf("laid: reach %" PRIu64 "\n", reach_of(0));
+    printf("laid: reach %" PRIu64 ", ", reach_of(0));
+    print_plan(0);
 }
 
 /* The phase that the items are to be in on the day. */
@@ -422,8 +446,8 @@ static bool change_towards(unsigned phase)
 
     for (uint64_t item = 0; item < ITEMS; item++) {
         if (phase_of[item] < phase) {
-            plan p = {OSPREYSCREEN_ROUND_CHANGE, item, 0, &phases[phase_of[item] + 1]};
-            if (run_and_check(&p)) {
+            job j = {OSPREYSCREEN_ROUND_CHANGE, item, 0, &phases[phase_of[item] + 1]};
+            if (run_and_check(&j)) {
                 phase_of[item]++;
             }
         }
@@ -458,8 +482,8 @@ static void retire(int day)
 static void write_and_read(int day)
 {
     for (uint64_t item = 0; item < ITEMS; item++) {
-        plan write = {OSPREYSCREEN_ROUND_WRITE, item, 1000 * item + (uint64_t)day, NULL};
-        plan read = {OSPREYSCREEN_ROUND_READ, item, 0, NULL};
+        job write = {OSPREYSCREEN_ROUND_WRITE, item, 1000 * item + (uint64_t)day, NULL};
+        job read = {OSPREYSCREEN_ROUND_READ, item, 0, NULL};
         run_and_check(&write);
         night();
         run_and_check(&read);
@@ -504,7 +528,7 @@ static void print_summary(void)
             printf("given up as %s: %lu\n", word_of(number), held_up_by[number]);
         }
     }
-    for (int number = OSPREYSCREEN_UNSOUND; number <= OSPREYSCREEN_FALSE_FRAME; number++) {
+    for (int number = OSPREYSCREEN_UNSOUND; number <= OSPREYSCREEN_OUT_OF_HEARING; number++) {
         if (seen[number] != 0) {
             printf("refused with %d: %lu\n", number, seen[number]);
         }
@@ -514,9 +538,10 @@ static void print_summary(void)
     }
     for (uint64_t item = 0; item < ITEMS; item++) {
         printf("item %" PRIu64 ": value %" PRIu64 ", version %" PRIu64 ", generation %" PRIu64
-               ", reach %" PRIu64 "\n",
+               ", reach %" PRIu64 ", ",
                item, record[item].value, record[item].version, record[item].generation,
                reach_of(item));
+        print_plan(item);
     }
 }
 
