@@ -623,12 +623,10 @@ static void begin_copies(generator *g, unsigned n)
 }
 
 /* A read, a write and a change of the scene's item with every station polled,
- * and its reach with each station off in turn; its plan with all on and with
- * one off. */
+ * its plan, and its reach with each station off in turn. */
 static void look_at_copies(generator *g)
 {
     unsigned n = scene[0];
-    unsigned chosen = (unsigned)rng_below(&g->source, n);
 
     for (unsigned kind = OSPREYSCREEN_ROUND_READ; kind <= OSPREYSCREEN_ROUND_CHANGE; kind++) {
         damage_round(&g->source, scene, kind);
@@ -649,9 +647,6 @@ static void look_at_copies(generator *g)
     for (unsigned station = 0; station < n; station++) {
         make(g, call_link(station, OSPREYSCREEN_LINK_OFF));
         make(g, call_reach(0));
-        if (station == chosen) {
-            make(g, call_plan(0));
-        }
         make(g, call_link(station, OSPREYSCREEN_LINK_ON));
     }
 }
