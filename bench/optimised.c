@@ -302,6 +302,11 @@ static inline uint8_t *item_copies(uint8_t *table, const head *h, uint64_t item)
     return table + item_start(h, item);
 }
 
+static inline uint64_t on_the_bus(const head *h)
+{
+    return ((UINT64_C(1) << h->n) - 1) & ~h->off;
+}
+
 /* The copy with the highest counter at the offset, the lowest station among
  * equals; the set is not empty. */
 static inline const uint8_t *newest(const uint8_t *copies, uint64_t stations, size_t counter)
@@ -610,7 +615,7 @@ ospreyscreen_reply opt_reach(const uint8_t *table, size_t len, uint64_t item)
     if (item >= h.m) {
         return refused(OSPREYSCREEN_NO_SUCH_THING);
     }
-    uint64_t on = ((UINT64_C(1) << h.n) - 1) & ~h.off;
+    uint64_t on = on_the_bus(&h);
     const uint8_t *found = heard(table + item_start(&h, item), on);
     if (found == NULL) {
         return done(OSPREYSCREEN_REACH_NOTHING, 0, 0);
@@ -711,7 +716,7 @@ ospreyscreen_reply opt_plan(const uint8_t *table, size_t len, uint64_t item)
     if (item >= h.m) {
         return refused(OSPREYSCREEN_NO_SUCH_THING);
     }
-    uint64_t on = ((UINT64_C(1) << h.n) - 1) & ~h.off;
+    uint64_t on = on_the_bus(&h);
     if (on == 0) {
         return refused(OSPREYSCREEN_OUT_OF_HEARING);
     }

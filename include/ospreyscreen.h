@@ -272,24 +272,24 @@ ospreyscreen_reply ospreyscreen_diagnose(const uint8_t *table, size_t len);
 
 /*
  * Tells how many polls a new round on the item will take, and how many puts a
- * write then, if it turns to the stations on the bus in rising number, from the
- * lowest on. Stations that are off do not count, nor does the round that is
- * open. Changes no byte.
+ * write after them, if it turns to the stations on the bus in rising number,
+ * from the lowest on. Stations that are off do not count, nor does the round
+ * that is open. Changes no byte.
  * Figures:
- * - first is the polls: after so many the round is heard, for the first time,
- *   by what these copies give. A read that polls no more is done;
- * - second is the puts: data puts at so many stations on the bus, again from
- *   the lowest on, polled or not, hold a write set of the configuration that
- *   the polls found, and one less does not. A write with these polls and puts
- *   is done, unless the version found is 2^64 - 1. A change needs as many
- *   configuration puts; its data puts go by the target. 0 if puts at all
- *   stations on the bus hold no such set: the item can only be read now.
- * Both are 1 to 16, and either may be the larger. They hold as long as nobody
- * is linked, and no round on the item finishes; other orders may take fewer.
- * Refusals: 1 table, 2 item, 15 no such polls make a round heard, all stations
- * on the bus included, as with nobody on the bus. Reach is then 0. On a table
- * that only these calls have changed since a lay that was done, plan gets 15
- * wherever reach is 0.
+ * - first is the polls, 1 to 16: after so many the round is heard for the first
+ *   time, by what these copies give. A read that polls no more is done;
+ * - second is the puts, 0 to 16: data puts at so many stations on the bus, again
+ *   from the lowest on, polled or not, hold a write set of the configuration
+ *   that the polls found, and one fewer do not. A write with these polls and
+ *   puts is done, unless the version found is 2^64 - 1. A change needs as many
+ *   configuration puts; its data puts go by the target. 0 means that puts at all
+ *   stations on the bus hold no such set: a round with these polls can only read.
+ * The figures are for the table as it is: a link, or a round on the item that
+ * finishes, may change them. Another order of stations may take fewer.
+ * Refusals: 1 table, 2 item, 15 the round is not heard after any of these polls,
+ * that of the last station on the bus included, as with nobody on the bus. Reach
+ * is then 0. On a table that only these calls have changed since a lay that was
+ * done, plan gets 15 wherever reach is 0.
  */
 ospreyscreen_reply ospreyscreen_plan(const uint8_t *table, size_t len, uint64_t item);
 

@@ -492,17 +492,18 @@ static bool open_round(season *s, call opening)
 static void follow_plan(season *s, const ospreyscreen_reply *told)
 {
     outlook o = look(s);
+    unsigned left = o.on & ~o.polled;
 
-    for (uint64_t made = 0; made < told->first && (o.on & ~o.polled) != 0; made++) {
-        make(s, call_poll((unsigned)__builtin_ctz(o.on & ~o.polled)));
+    for (uint64_t made = 0; made < told->first && left != 0; made++) {
+        make(s, call_poll((unsigned)__builtin_ctz(left)));
         o = look(s);
+        left = o.on & ~o.polled;
     }
-    for (uint64_t made = 0; made < told->second && (o.on & ~o.data_puts) != 0; made++) {
-        if (o.round != OSPREYSCREEN_ROUND_WRITE) {
-            return;
-        }
-        make(s, call_put((unsigned)__builtin_ctz(o.on & ~o.data_puts), OSPREYSCREEN_PUT_DATA));
+    left = o.round == OSPREYSCREEN_ROUND_WRITE ? o.on : 0;
+    for (uint64_t made = 0; made < told->second && left != 0; made++) {
+        make(s, call_put((unsigned)__builtin_ctz(left), OSPREYSCREEN_PUT_DATA));
         o = look(s);
+        left = o.on & ~o.data_puts;
     }
 }
 
@@ -510,9 +511,9 @@ static void follow_plan(season *s, const ospreyscreen_reply *told)
 static const ospreyscreen_reply NO_PLAN = {.number = OSPREYSCREEN_OUT_OF_HEARING};
 
 /* Opens a round and takes it to its commit, by the plan and on from where that
- * ends. If the commit is short, since puts are gone with their
- * stations, the task may ask what holds the round up; it polls and goes on. In
- * the end it gives up, or hangs. */
+ * ends. If the commit is short, since puts are gone with their stations, the
+ * task may ask what holds the round up; it polls and goes on. In the end it
+ * gives up, or hangs. */
 static void play_round(season *s, task *t, call opening, const ospreyscreen_reply *told)
 {
     enum { ATTEMPTS = 3 };

@@ -281,14 +281,14 @@ static void look_at_plan(sight *s, const outlook *o, const call *c)
     const uint8_t *found = outlook_configuration(o, item, start);
     const uint8_t *first = outlook_configuration(o, item, lowest_stations(start, 1));
     const uint8_t *last = outlook_configuration(o, item, o->on);
-    const uint8_t *newest = outlook_configuration(o, item, all_stations(o->n));
+    const uint8_t *with_off = outlook_configuration(o, item, start | o->off);
     bool open = o->round != OSPREYSCREEN_ROUND_NONE;
     s->met[MET_PLAN_CHANGES] = memcmp(found, first, CONFIGURATION) != 0;
     s->met[MET_PLAN_PASSES_OFF] = o->off != 0 && lowest_stations(o->off, 1) < start;
     s->met[MET_PLAN_IN_ROUND] = open && o->item != item;
     s->met[MET_PLAN_OF_POLLED] = open && o->item == item && o->polled != 0;
     s->met[MET_PLAN_TIE] = !s->covered && outlook_tie(o, item, start, COUNTER_GENERATION);
-    s->met[MET_PLAN_LEFT] = !s->covered && memcmp(found, newest, CONFIGURATION) != 0;
+    s->met[MET_PLAN_LEFT] = !s->covered && memcmp(found, with_off, CONFIGURATION) != 0;
     s->met[MET_PLAN_OTHER_PUTS] = !s->covered && puts_for(o, found) != puts_for(o, last);
     if (!s->covered) {
         look_behind_plan(s, o, item, start);
