@@ -44,5 +44,6 @@ module _ (v : State) (isSound : v .isSound ≡ true) (few : v .n ≤ 16) where
   never-heard [] on r u a item busy d c nowhere = tt
   never-heard (s ∷ order) on r u a item busy d c nowhere =
       let one = one-polled v isSound few s (first-on v s order on) r u a item busy d c in
-      let rest = never-heard order (rest-on v s order on) (withPoll r s) (after u (poll s)) (one .asking) item busy d c (λ k m. nowhere (suc k) (omega arith)) in
+      let rest = never-heard order (rest-on v s order on) (withPoll r s) (after u (poll s)) (one .asking) item busy d c
+      (λ k m. nowhere (suc k) (omega arith)) in
       (one .done, one .says ∙ promise .figure-none _ .1 (nowhere 0 (omega arith)), rest)

@@ -1,12 +1,12 @@
 -- Each call's tests decide its needs, in their order; its numbers are listed and rise; it has figures or none, and is a lay or another.
 use mathlib.Core.Path.{_≡_, refl, sym, ap, _∙_}
-use mathlib.Core.Bool.{true, false, not, _&&_, _||_}
-use mathlib.Core.List.{List, _∷_}
+use mathlib.Core.Bool.{Bool, true, false, not, _&&_, _||_}
+use mathlib.Core.List.{List, [], _∷_}
 use mathlib.Core.Logic.{_↔_, _⊎_, inl, inr, ⊎-elim}
 use Prim.Native.Nat.{ℕ, _<_}
 use native.Mathlib.Omega.{arith}
-use lib.Dec.{ltb, eqb}
-use borrow.Author.Tests.{ltb-true, lt-ltb, eqb-true, eq-eqb, ne-eqb, not-false}
+use lib.Dec.{ltb, leb, eqb}
+use borrow.Author.Tests.{ltb-true, lt-ltb, leb-true, eqb-true, eq-eqb, ne-eqb, not-false}
 use Rattle.basics.proofs.Tests.{clash, and-left, and-right, and-both, or-left, or-right, or-cases, or-false-left, or-false-right}
 use Rattle.quorum.specs.Configurations.{isPlace}
 use Rattle.quorum.proofs.Promise.{promise}
@@ -25,7 +25,8 @@ use Rattle.rules.specs.Demand1.{HasFigures, of-poll, of-commit, of-reach
 use Rattle.rules.specs.Demand2.{Found}
 use Rattle.rules.specs.Needs.{Gets, numbers, Rise, RightPut, SpentAtPut, InHearing, needs, Allowed, Numbers}
 use Rattle.rules.proofs.Chains.{Decides, Listed, first-fails, first-applies, exactly, gets-zero, gets-fails, gets-lowest}
-use Rattle.rules.proofs.Quorums.{passes, negated, both, is-spent, is-written, heard-by, heard-exactly, of-every, of-none, version-found, generation-found}
+use Rattle.rules.proofs.Quorums.{passes, negated, both, is-spent, is-written, heard-by, heard-exactly, of-every, of-none}
+use Rattle.rules.proofs.Quorums.{version-found, generation-found}
 
 -- a lay
 pub data IsLay : Call → Type 0 where
@@ -75,6 +76,17 @@ right-put read sort q = (λ e. clash refl e, λ h. absurd h)
 right-put write sort q = (λ e. ⊎-elim (λ h. h) (λ h. clash (eq-eqb sort 2 h) e) q, λ h. ne-eqb sort 2 (λ z. omega arith))
 right-put change sort q = (λ e. tt, λ h. refl)
 
+-- numbers of document 01's table, which every call may have
+abbrev inPaper : List ℕ → Bool
+inPaper [] = true
+inPaper (k ∷ rest) = (leb 1 k && leb k 11) && inPaper rest
+
+in-paper : (c : Call) (l : List ℕ) → inPaper l ≡ true → Listed (ListedNumber c) l
+in-paper c [] e = tt
+in-paper c (k ∷ rest) e =
+    let here = and-left (leb 1 k && leb k 11) (inPaper rest) e in
+    (leb-true 1 k (and-left _ (leb k 11) here), inl (leb-true k 11 (and-right (leb 1 k) _ here)), in-paper c rest (and-right (leb 1 k && leb k 11) _ e))
+
 module _ (v : State) where
   spent-put : (f : Found v) (k : Kind) (sort : ℕ) → (spentAtPut v k sort ≡ true) ↔ SpentAtPut v f k sort
   spent-put f none sort = (λ e. clash e refl, λ z. absurd z)
@@ -107,7 +119,7 @@ module _ (v : State) where
   judged (lay n m value config) =
       record {
         decided = (refl, passes (listed n m) (sized n m), λ _. (refl, passes _ same, λ _. (refl, passes _ (promise .valid-exactly n config), λ _. tt)));
-        listed = (omega arith, inl (omega arith), (omega arith, inl (omega arith), (omega arith, inl (omega arith), tt)));
+        listed = in-paper (lay n m value config) (2 ∷ 1 ∷ 3 ∷ []) refl;
         rising = λ l. clash refl l;
         figures = inr refl;
         lay? = inl of-lay;
@@ -115,7 +127,7 @@ module _ (v : State) where
   judged (openRead i) =
       record {
         decided = (refl, isSound, λ _. (refl, below i (v .m), λ _. (refl, no-round kind, λ _. tt)));
-        listed = (omega arith, inl (omega arith), (omega arith, inl (omega arith), (omega arith, inl (omega arith), tt)));
+        listed = in-paper (openRead i) (1 ∷ 2 ∷ 4 ∷ []) refl;
         rising = λ l. (omega arith, (omega arith, (omega arith, tt)));
         figures = inr refl;
         lay? = inr refl;
@@ -123,7 +135,7 @@ module _ (v : State) where
   judged (openWrite i value) =
       record {
         decided = (refl, isSound, λ _. (refl, below i (v .m), λ _. (refl, no-round kind, λ _. tt)));
-        listed = (omega arith, inl (omega arith), (omega arith, inl (omega arith), (omega arith, inl (omega arith), tt)));
+        listed = in-paper (openWrite i value) (1 ∷ 2 ∷ 4 ∷ []) refl;
         rising = λ l. (omega arith, (omega arith, (omega arith, tt)));
         figures = inr refl;
         lay? = inr refl;
@@ -135,7 +147,7 @@ module _ (v : State) where
           isSound,
           λ _. (refl, below i (v .m), λ _. (refl, passes _ (promise .valid-exactly (v .n) target), λ _. (refl, no-round kind, λ _. tt))),
         );
-        listed = (omega arith, inl (omega arith), (omega arith, inl (omega arith), (omega arith, inl (omega arith), (omega arith, inl (omega arith), tt))));
+        listed = in-paper (openChange i target) (1 ∷ 2 ∷ 3 ∷ 4 ∷ []) refl;
         rising = λ l. (omega arith, (omega arith, (omega arith, (omega arith, tt))));
         figures = inr refl;
         lay? = inr refl;
@@ -147,7 +159,7 @@ module _ (v : State) where
           isSound,
           λ _. (refl, below s (v .n), λ _. (refl, a-round kind, λ _. (refl, same, λ _. (refl, empty (v .round .dataPuts) (v .round .configPuts), λ _. tt)))),
         );
-        listed = (omega arith, inl (omega arith), (omega arith, inl (omega arith), (omega arith, inl (omega arith), (omega arith, inl (omega arith), (omega arith, inl (omega arith), tt)))));
+        listed = in-paper (poll s) (1 ∷ 2 ∷ 5 ∷ 6 ∷ 7 ∷ []) refl;
         rising = λ l. (omega arith, (omega arith, (omega arith, (omega arith, (omega arith, tt)))));
         figures = inl of-poll;
         lay? = inr refl;
@@ -176,27 +188,7 @@ module _ (v : State) where
             ),
           ),
         );
-        listed = (
-          omega arith,
-          inl (omega arith),
-          (
-            omega arith,
-            inl (omega arith),
-            (
-              omega arith,
-              inl (omega arith),
-              (
-                omega arith,
-                inl (omega arith),
-                (
-                  omega arith,
-                  inl (omega arith),
-                  (omega arith, inl (omega arith), (omega arith, inl (omega arith), tt)),
-                ),
-              ),
-            ),
-          ),
-        );
+        listed = in-paper (put s sort) (1 ∷ 2 ∷ 5 ∷ 6 ∷ 8 ∷ 9 ∷ 10 ∷ []) refl;
         rising = λ l. (omega arith, (omega arith, (omega arith, (omega arith, (omega arith, (omega arith, (omega arith, tt)))))));
         figures = inr refl;
         lay? = inr refl;
@@ -221,7 +213,7 @@ module _ (v : State) where
             ),
           ),
         );
-        listed = (omega arith, inl (omega arith), (omega arith, inl (omega arith), (omega arith, inl (omega arith), (omega arith, inl (omega arith), (omega arith, inl (omega arith), tt)))));
+        listed = in-paper commit (1 ∷ 5 ∷ 8 ∷ 10 ∷ 11 ∷ []) refl;
         rising = λ l. (omega arith, (omega arith, (omega arith, (omega arith, (omega arith, tt)))));
         figures = inl of-commit;
         lay? = inr refl;
@@ -229,7 +221,7 @@ module _ (v : State) where
   judged abandon =
       record {
         decided = (refl, isSound, λ _. (refl, a-round kind, λ _. tt));
-        listed = (omega arith, inl (omega arith), (omega arith, inl (omega arith), tt));
+        listed = in-paper abandon (1 ∷ 5 ∷ []) refl;
         rising = λ l. (omega arith, (omega arith, tt));
         figures = inr refl;
         lay? = inr refl;
@@ -237,7 +229,7 @@ module _ (v : State) where
   judged (link s state) =
       record {
         decided = (refl, isSound, λ _. (refl, at-station (v .n) s state 0 1, λ _. tt));
-        listed = (omega arith, inl (omega arith), (omega arith, inl (omega arith), tt));
+        listed = in-paper (link s state) (1 ∷ 2 ∷ []) refl;
         rising = λ l. (omega arith, (omega arith, tt));
         figures = inr refl;
         lay? = inr refl;
@@ -245,7 +237,7 @@ module _ (v : State) where
   judged (reach i) =
       record {
         decided = (refl, isSound, λ _. (refl, below i (v .m), λ _. tt));
-        listed = (omega arith, inl (omega arith), (omega arith, inl (omega arith), tt));
+        listed = in-paper (reach i) (1 ∷ 2 ∷ []) refl;
         rising = λ l. (omega arith, (omega arith, tt));
         figures = inl of-reach;
         lay? = inr refl;
@@ -253,7 +245,7 @@ module _ (v : State) where
   judged diagnose =
       record {
         decided = (refl, isSound, λ _. (refl, a-round kind, λ _. tt));
-        listed = (omega arith, inl (omega arith), (omega arith, inl (omega arith), tt));
+        listed = in-paper diagnose (1 ∷ 5 ∷ []) refl;
         rising = λ l. (omega arith, (omega arith, tt));
         figures = inl of-diagnose;
         lay? = inr refl;

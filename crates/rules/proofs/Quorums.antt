@@ -7,6 +7,7 @@ use Prim.Native.Nat.{ℕ, _-_, _^_}
 use borrow.Author.Tests.{eqb-true, eq-eqb, not-false}
 use Rattle.basics.proofs.Tests.{clash, fails, and-left, and-right, and-both}
 use Rattle.quorum.specs.Configurations.{firstRead, placeFigure}
+use Rattle.quorum.specs.declared.Place.{Place}
 use Rattle.quorum.proofs.Promise.{promise}
 use Rattle.layout.specs.Fields.{Kind, none, read, write, change}
 use Rattle.layout.specs.Newest.{byGeneration, heardPlace, hears}
@@ -78,21 +79,24 @@ module _ (v : State) where
     abbrev config : List ℕ
     config = byGeneration (v .copies i) set (v .n) .config
 
+    abbrev place : Place
+    place = firstRead config set
+
     pub place-shown : PlaceShown v i set (placeFigure (heardPlace (v .copies i) set (v .n)))
     unfolding hears
     place-shown =
         record {
           place = λ k. (
-            λ e. let at-k = promise .figure-at (firstRead config set) k .0 e in
-                let f = heard-finds (v .copies i) set (v .n) (promise .a-place (firstRead config set) .1 (k, at-k)) in
+            λ e. let at-k = promise .figure-at place k .0 e in
+                let f = heard-finds (v .copies i) set (v .n) (promise .a-place place .1 (k, at-k)) in
                 (f .g, f .newestGeneration, rw (config, f .generation) at (promise .first-read config set k .0 at-k)),
-            λ h. promise .figure-at (firstRead config set) k .1
+            λ h. promise .figure-at place k .1
                 (rw (config, by-generation (v .copies i) set (v .n) (h .0) (h .1)) (promise .first-read (v .copies i (h .0) .config) set k .1 (h .2))),
           );
-          heard = (λ l. heard-by i set .0 (promise .figure-place (firstRead config set) .0 l), λ h. promise .figure-place (firstRead config set) .1 (heard-by i set .1 h));
+          heard = (λ l. heard-by i set .0 (promise .figure-place place .0 l), λ h. promise .figure-place place .1 (heard-by i set .1 h));
           unheard = (
-            λ e g h. clash (heard-by i set .1 (g, h)) (promise .figure-none (firstRead config set) .0 e),
-            λ n. promise .figure-none (firstRead config set) .1 (fails _ (λ e. let h = heard-by i set .0 e in n (h .0) (h .1))),
+            λ e g h. clash (heard-by i set .1 (g, h)) (promise .figure-none place .0 e),
+            λ n. promise .figure-none place .1 (fails _ (λ e. let h = heard-by i set .0 e in n (h .0) (h .1))),
           );
         }
 

@@ -51,7 +51,8 @@ module _ (t : Table) (b : AreBytes t) where
       let few = is-sound t (a .0) .small in
       let place = place-fits (own v) (v .round .polled) (v .n) in
       (omega arith, omega arith, omega arith)
-  figured-fits (of-plan {i}) a = let fits = plan-fits (view t .copies i) (onBus (view t)) (view t .n) in (omega (arith, fits .0), omega (arith, fits .1), omega arith)
+  figured-fits (of-plan {i}) a =
+      let fits = plan-fits (view t .copies i) (onBus (view t)) (view t .n) in (omega (arith, fits .0), omega (arith, fits .1), omega arith)
 
   done-fits : (c : Call) → Allowed (view t) c → Fit (figuresOf (view t) c)
   done-fits c a = go (judged (view t) c .figures)

@@ -41,8 +41,8 @@ frameReplies = shown
 
 -- before a lay succeeds the table is empty; lines that are no frames; after a lay nothing is reached, and a poll gets 6 until its station's link; a
 -- lay that is refused, with n = 0 or a false configuration, keeps the table. Call 0B (document 02, 2026-04) has no argument; with no round it gets 5; with
--- station 1 polled commit would get 8, and with 1 and 2, which hold the third read place, it would be done. Call 0C (2026-05) has an item; with nobody on the bus it gets 15, and with 1 and 2 on it two polls and
--- two puts will do
+-- station 1 polled commit would get 8, and with 1 and 2, which hold the third read place, it would be done. Call 0C (2026-05) has an item; with nobody on
+-- the bus it gets 15, and with 1 and 2 on it two polls and two puts will do
 unfoldable pub mixedCase : List ℕ
 mixedCase = shown
     ("07"

@@ -40,7 +40,8 @@ figure c =
     let addressed = c .before in
     let told = addressed .before in
     let bus = at-bus c in
-    reached _ _ _ (bus .before .stations .ensures) (bus .on-bus .ensures) (at-search told .search .ensures .1) (told .before .newest .given .1) (addressed .address .ensures) (c .config-at .ensures)
+    reached _ _ _ (bus .before .stations .ensures) (bus .on-bus .ensures) (at-search told .search .ensures .1) (told .before .newest .given .1)
+    (addressed .address .ensures) (c .config-at .ensures)
 
 stations-requires : tie.Need-stations-requires
 stations-requires c κs = sound-head _ (c .before .pre .0)
