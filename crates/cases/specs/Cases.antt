@@ -73,16 +73,16 @@ everywhere = round (openChange 0 single) (dataPut 2 ∷ configPut 0 ∷ configPu
 abbrev pub moves : List Call
 moves = round (openChange 0 toOther) (dataPut 2 ∷ dataPut 3 ∷ configPut 0 ∷ configPut 1 ∷ commit ∷ [])
 
--- a house of five whose first four read, and which the fourth alone writes, changes to its fifth station: "data put 4, configuration put 3". Of polls in
--- rising number only the fourth finds the change.
+-- a house of five whose first four read, and which the fourth alone writes, changes to its fifth station, with data put 4 and configuration put 3. Of polls
+-- in rising number only the fourth finds the change.
 abbrev pub firstFour : List ℕ
 firstFour = side 15 0 0 ++ side 8 0 0
 
 abbrev pub fifth : List ℕ
 fifth = side 16 0 0 ++ side 16 0 0
 
-abbrev pub moveOn : List Call
-moveOn = openChange 0 fifth ∷ poll 0 ∷ poll 1 ∷ poll 2 ∷ poll 3 ∷ dataPut 4 ∷ configPut 3 ∷ commit ∷ []
+abbrev pub movesToFifth : List Call
+movesToFifth = openChange 0 fifth ∷ poll 0 ∷ poll 1 ∷ poll 2 ∷ poll 3 ∷ dataPut 4 ∷ configPut 3 ∷ commit ∷ []
 
 -- ---- rows: the stations and the configuration of a lay, the calls after it, and what the last of them gets, its number and three figures
 pub record Row : Type 0 where
@@ -240,19 +240,20 @@ table =
     ∷ house 3 (side 7 0 0 ++ side 1 0 0) (returns 0 ∷ returns 1 ∷ returns 2 ∷ plan 0 ∷ []) 0 3 1 0
     -- "this second figure is 0 if none can": no write set on the bus, which is not 15
     ∷ house 3 (side 1 0 0 ++ side 7 0 0) (returns 0 ∷ returns 1 ∷ plan 0 ∷ []) 0 1 0 0
-    -- the house whose sets moved: 0 and 1 know that 2 reads, and 2 and 3 write; without both of them nothing is heard, and without 3 nothing is written
+    -- the house whose sets moved: 0 and 1 know that 2 reads, and 2 and 3 write; with neither of them nothing is heard, and without 3 nothing is written
     ∷ moved (plan 0 ∷ []) 0 3 4 0
     ∷ moved (drops 0 ∷ plan 0 ∷ []) 0 2 3 0
     ∷ moved (drops 0 ∷ drops 1 ∷ plan 0 ∷ []) 15 0 0 0
     ∷ moved (drops 3 ∷ plan 0 ∷ []) 0 3 0 0
-    -- a configuration found that changes on the way: four polls would do, but the fourth finds the newer generation, unheard again until the fifth
+    -- a configuration found that changes on the way: by the old sets four polls would do, but the fourth finds the newer generation, and the round is
+    -- unheard until the fifth
     ∷ five (plan 0 ∷ []) 0 4 4 0
     ∷ five (openRead 0 ∷ poll 0 ∷ poll 1 ∷ poll 2 ∷ poll 3 ∷ []) 0 1 0 0
-    ∷ five (moveOn ++ (plan 0 ∷ [])) 0 5 5 0
-    ∷ five (moveOn ++ (openRead 0 ∷ poll 0 ∷ poll 1 ∷ poll 2 ∷ poll 3 ∷ [])) 0 0 0 0
-    ∷ five (moveOn ++ (openRead 0 ∷ poll 0 ∷ poll 1 ∷ poll 2 ∷ poll 3 ∷ poll 4 ∷ [])) 0 1 0 0
+    ∷ five (movesToFifth ++ (plan 0 ∷ [])) 0 5 5 0
+    ∷ five (movesToFifth ++ (openRead 0 ∷ poll 0 ∷ poll 1 ∷ poll 2 ∷ poll 3 ∷ [])) 0 0 0 0
+    ∷ five (movesToFifth ++ (openRead 0 ∷ poll 0 ∷ poll 1 ∷ poll 2 ∷ poll 3 ∷ poll 4 ∷ [])) 0 1 0 0
     -- with station 3 off the others know nothing of it, and are not heard by the old sets either
-    ∷ five (moveOn ++ (drops 3 ∷ plan 0 ∷ [])) 15 0 0 0
+    ∷ five (movesToFifth ++ (drops 3 ∷ plan 0 ∷ [])) 15 0 0 0
     -- the open round does not matter, whatever it has polled and put
     ∷ row (round (openWrite 0 510) (dataPut 2 ∷ drops 0 ∷ plan 0 ∷ [])) 0 2 2 0
     ∷ []

@@ -17,9 +17,9 @@ use Rattle.plan.specs.Plan.{pollsNeeded, putsNeeded}
 abbrev pub oneOfEach : ℕ → ℕ → List ℕ
 oneOfEach read write = (read ∷ replicate 15 0) ++ (write ∷ replicate 15 0)
 
--- stations 0 to 2 have generation 0, read {0, 1, 2} and write {1}; 3 and 4 have generation 1, read and write {4}
+-- stations 0 to 2 have generation 0, read {0, 1, 2} and write {1, 3}; 3 and 4 have generation 1, read and write {4}
 abbrev pub handMade : ℕ → Copy
-handMade s = cond (ltb s 3) (newCopy 0 500 0 (oneOfEach 7 2)) (newCopy 0 500 1 (oneOfEach 16 16))
+handMade s = cond (ltb s 3) (newCopy 0 500 0 (oneOfEach 7 10)) (newCopy 0 500 1 (oneOfEach 16 16))
 
 -- whether polls of the k lowest of five stations are heard
 abbrev pub heardBy : ℕ → Bool
@@ -27,4 +27,4 @@ heardBy k = hears handMade (start (rising 31) k) 5
 
 abbrev pub OnTheWay : Type 0
 OnTheWay = (heardBy 1 ∷ heardBy 2 ∷ heardBy 3 ∷ heardBy 4 ∷ heardBy 5 ∷ [] ≡ false ∷ false ∷ true ∷ false ∷ true ∷ [])
-    × (placeFigure (pollsNeeded handMade 31 5) ∷ placeFigure (putsNeeded handMade 31 5) ∷ [] ≡ 3 ∷ 2 ∷ [])
+    × (placeFigure (pollsNeeded handMade 31 5) ∷ placeFigure (putsNeeded handMade 31 5) ∷ [] ≡ 3 ∷ 4 ∷ [])

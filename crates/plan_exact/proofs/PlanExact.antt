@@ -9,9 +9,7 @@ use lib.Dec.{ltb}
 use lib.ListN.{length}
 use lib.Seq.{take-length}
 use borrow.Author.Tests.{ltb-true, ltb-false}
-use Rattle.basics.specs.Listing.{Listing}
 use Rattle.basics.specs.Bytes.{AreBytes}
-use Rattle.quorum.specs.Sets.{member}
 use Rattle.basics.proofs.Tests.{clash, either, fails, and-left, and-right, and-both}
 use Rattle.plan.specs.Starts.{joined}
 use Rattle.quorum.specs.Configurations.{writeSet, placeFigure, holdsWrite, valid}
@@ -36,7 +34,7 @@ use Rattle.rules.specs.Lists.{replies, afterAll}
 use Rattle.rules.specs.Book.{Book, fed}
 use Rattle.rules.specs.Needs.{needs, InHearing}
 use Rattle.rules.specs.Demand2.{HeardBy}
-use Rattle.rules.specs.Steps.{SameCopies, Enough, Planned}
+use Rattle.rules.specs.Steps.{SameCopies, RisingOnBus, Enough, Planned}
 use Rattle.rules.specs.WholeRounds.{Opens, polls, puts}
 use Rattle.rules.proofs.Judged.{numbered}
 use Rattle.rules.proofs.Quorums.{heard-by}
@@ -48,7 +46,7 @@ use Rattle.rules.proofs.Alike.{no-round-matters}
 use Rattle.rules.proofs.Asking.{ThoseOn}
 use Rattle.rules.proofs.Book.{Follows}
 use Rattle.rules.proofs.Copies.{heard-current, heard-grows}
-use Rattle.rules.proofs.WholeRounds.{begun, read-ends, write-ends, change-ends}
+use Rattle.rules.proofs.WholeRounds.{begun, all-done, read-ends, write-ends, change-ends}
 use Rattle.rules.proofs.Reading.{gives-entry, gives-after-abandon}
 use Rattle.rules.proofs.OnTheBus.{allHeard, canWrite, zero-told, write-told, reach-figure}
 use Rattle.plan_exact.specs.PlanExact.{FirstHeardAt, NeverHeard, PlannedRounds, OverLists, PlanExact}
@@ -213,7 +211,7 @@ module _ (t : Table) (i : ℕ) where
         rounds-planned : PlannedRounds t i p q
         rounds-planned =
             record {
-              hears = hears-planned;
+              hears = λ c pass o d. (all-done t bytes i c pass o d (orderOn v) all-on, hears-planned c pass o d);
               reads = λ j l. read-ends t bytes i (lowestOn v j) (those-on j) opens-read (heard-last j l);
               writes = λ j k value l pass.
                   write-ends t bytes i (lowestOn v j) (those-on j) value pass (opens-write value) (lowestOn v k) (those-on k) (heard-last j l) (enough j k l);
@@ -247,7 +245,7 @@ unread t i k bytes e idle =
     let opens = numbered .done-exactly t (openRead i) .1 (x .isSound, (x .item, (idle, tt))) in
     read-ends t bytes i (lowestOn (view t) k) (those-on t i k) opens {H = ⊥} (λ h. clash h (unheard-start t i e k), λ z. absurd z) .unheard .1 (λ z. z)
 
-in-order : (t : Table) → sound t ≡ true → Listing (λ s. (s < view t .n) × (member (view t .off) s ≡ false)) (orderOn (view t))
+in-order : (t : Table) → sound t ≡ true → RisingOnBus (view t)
 unfolding view
 in-order t s = order-on (view t) (is-sound t s .small)
 

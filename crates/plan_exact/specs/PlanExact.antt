@@ -1,18 +1,16 @@
 -- Plan is exact (document 02, 2026-05), by the calls themselves. On every sound table of bytes with no open round, where plan gives p polls and q puts:
--- after an opening of the item, polls of the stations on the bus in rising number show p − 1 times that the round is not heard, and then that it is; the
--- read that polls the first p is done, and with fewer polls it gets 8. With those polls and data puts at the k lowest stations on the bus a write finishes
--- exactly if q is above 0, k is at least q and no version among those polled is spent: so q puts do, q − 1 do not, and with q = 0 those at all of them do
--- not. A change with data puts at all of them finishes so by its configuration puts, if they hold a write set of its target and no generation among those
--- polled is spent. Where plan gets 15, no start of the rising order is heard. Over every list of demand 3 more polls keep the round heard and the puts right,
--- the read gives the book's figures, and plan and reach agree.
+-- after an opening of the item, polls of the stations on the bus in rising number are done, and show p − 1 times that the round is not heard, and then that
+-- it is; the read that polls the first p is done, and with fewer polls it gets 8. With those polls and data puts at the k lowest stations on the bus a write
+-- finishes exactly if q is above 0, k is at least q and no version among those polled is spent: so q puts do, q − 1 do not, and with q = 0 those at all of
+-- them do not. A change with data puts at all of them and configuration puts at the k lowest finishes exactly if q is above 0, k is at least q, all of them
+-- hold a write set of its target, and no generation among those polled is spent. Where plan gets 15, no start of the rising order is heard. Over every list
+-- of demand 3 more polls keep the round heard and the puts right, the read gives the book's figures, and plan and reach agree.
 use mathlib.Core.Path.{_≡_}
-use mathlib.Core.Bool.{true, false}
+use mathlib.Core.Bool.{true}
 use mathlib.Core.List.{List, [], _∷_, _++_}
 use mathlib.Core.Logic.{_↔_, _⊎_}
-use Prim.Native.Nat.{ℕ, zero, suc, _≤_, _<_}
-use Rattle.basics.specs.Listing.{Listing}
+use Prim.Native.Nat.{ℕ, zero, suc, _≤_}
 use Rattle.basics.specs.Bytes.{AreBytes}
-use Rattle.quorum.specs.Sets.{member}
 use Rattle.quorum.specs.Configurations.{writeSet}
 use Rattle.quorum.specs.Promise.{QuorumIn}
 use Rattle.layout.specs.Fields.{none}
@@ -25,8 +23,8 @@ use Rattle.rules.specs.Reply.{reply, after}
 use Rattle.rules.specs.Lists.{replies, afterAll, AllPassable}
 use Rattle.rules.specs.Book.{Book, entry, fed, fedAll}
 use Rattle.rules.specs.Demand2.{HeardBy}
-use Rattle.rules.specs.Steps.{SameCopies, Enough, Planned}
-use Rattle.rules.specs.WholeRounds.{Opens, polls, puts, Closes, SpentAmong, DoneGiving}
+use Rattle.rules.specs.Steps.{SameCopies, RisingOnBus, Enough, Planned}
+use Rattle.rules.specs.WholeRounds.{Opens, polls, puts, AllDone, Closes, SpentAmong, DoneGiving}
 use Rattle.rules.specs.declared.Reply.{Reply}
 
 -- the replies to polls: done and not heard up to the last of the first p, which is done and heard. Those behind it do not matter.
@@ -45,7 +43,8 @@ NeverHeard (r ∷ rest) = (r .number ≡ 0) × (r .first ≡ 0) × NeverHeard re
 -- again; over lists see `stays-heard`.
 pub record PlannedRounds (t : Table) (i p q : ℕ) : Type 0 where
   -- an opening of the item and polls in rising number
-  pub hears : (c : Call) → Passable c → Opens c i → reply t c .number ≡ 0 → FirstHeardAt p (replies (after t c) (polls (orderOn (view t))))
+  pub hears : (c : Call) → Passable c → Opens c i → reply t c .number ≡ 0
+      → AllDone (replies (after t c) (polls (orderOn (view t)))) × FirstHeardAt p (replies (after t c) (polls (orderOn (view t))))
   -- the read with the first j of these polls
   pub reads : (j : ℕ) → j ≤ p → Closes (reply (afterAll t (openRead i ∷ polls (lowestOn (view t) j))) commit .number) (j ≡ p) ⊥ (Unit {0})
   -- the write with the first j of them, and data puts at the k lowest stations
@@ -81,13 +80,13 @@ pub record PlanExact : Type 0 where
   pub refused-as-reach : (t : Table) (i k : ℕ) → (k ≡ 1) ⊎ (k ≡ 2) → (reply t (plan i) .number ≡ k) ↔ (reply t (reach i) .number ≡ k)
   pub noOther : (t : Table) (i : ℕ) → reply t (reach i) .number ≡ 0 → (reply t (plan i) .number ≡ 0) ⊎ (reply t (plan i) .number ≡ 15)
   -- the order: exactly the stations on the bus, each once, rising
-  pub order : (t : Table) → sound t ≡ true → Listing (λ s. (s < view t .n) × (member (view t .off) s ≡ false)) (orderOn (view t))
+  pub order : (t : Table) → sound t ≡ true → RisingOnBus (view t)
   -- by starts of it and quorums (Steps.antt of the rules says it of bytes)
   pub shows : (t : Table) (i : ℕ) → reply t (plan i) .number ≡ 0 → Planned (view t) i (reply t (plan i))
   -- by the calls
   pub rounds : (t : Table) (i : ℕ) → AreBytes t → reply t (plan i) .number ≡ 0 → view t .round .kind ≡ none
       → PlannedRounds t i (reply t (plan i) .first) (reply t (plan i) .second)
-  -- where it gets 15, no start is heard: by the copies, whatever round is open; by the polls of an opening that is done; and the read that polls any gets 8
+  -- where it gets 15, no start is heard: by the copies, whatever round is open; by the polls of an opening that is done; and the read that polls any start gets 8
   pub no-start : (t : Table) (i : ℕ) → reply t (plan i) .number ≡ 15 → (k g : ℕ) → HeardBy (view t) i (startOn (view t) k) g → ⊥
   pub never-heard : (t : Table) (c : Call) (i : ℕ) → AreBytes t → Passable c → Opens c i → reply t c .number ≡ 0 → reply t (plan i) .number ≡ 15
       → NeverHeard (replies (after t c) (polls (orderOn (view t))))

@@ -18,7 +18,7 @@ use table::copy::address;
 use table::copy::config_at;
 use table::head::on_bus;
 use table::head::stations;
-use table::newest::newer_of;
+use table::newest::newer_by_generation;
 
 // After how many polls a round is first heard, and the station whose copy then gives the configuration found.
 pub enum FirstHeard {
@@ -40,7 +40,7 @@ fn first_heard(t: &[u8], n: usize, item: usize, on: u16) -> FirstHeard
         rest = sets::without_lowest(rest);
         polls = polls + 1;
         polled = sets::with_station(polled, s);
-        g = newer_of(t, n, item, g, s);
+        g = newer_by_generation(t, n, item, g, s);
         if sets::holds_read_set(config_at(t, address(n, item, g)), polled) {
             return FirstHeard::After(polls, g);
         }

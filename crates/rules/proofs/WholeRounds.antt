@@ -28,9 +28,9 @@ use Rattle.rules.specs.Passed.{Passable}
 use Rattle.rules.specs.Rules.{numberOf, last, spent, written}
 use Rattle.rules.specs.Figures.{figuresOf, closing}
 use Rattle.rules.specs.Reply.{replyOf, reply, after}
-use Rattle.rules.specs.Lists.{afterAll}
+use Rattle.rules.specs.Lists.{replies, afterAll}
 use Rattle.rules.specs.Needs.{needs}
-use Rattle.rules.specs.WholeRounds.{Opens, of-read, of-write, of-change, polls, puts, Closes, SpentAmong}
+use Rattle.rules.specs.WholeRounds.{Opens, of-read, of-write, of-change, polls, puts, AllDone, Closes, SpentAmong}
 use Rattle.rules.proofs.Judged.{a-round}
 use Rattle.rules.proofs.Demand1.{Shows}
 use Rattle.rules.proofs.Steps.{on-bus}
@@ -257,6 +257,14 @@ module _ (t : Table) (bytes : AreBytes t) (i : ℕ) where
   begun c p of-read e = (read, 0, noTarget, read-begun e)
   begun c p (of-write {value = x}) e = (write, x, noTarget, write-begun x p e)
   begun c p (of-change {target = l}) e = (change, 0, l, change-begun l p e)
+
+  -- its polls of stations on the bus are done
+  pub all-done : (c : Call) → Passable c → Opens c i → reply t c .number ≡ 0 → (order : List ℕ) → ThoseOn (view t) order
+      → AllDone (replies (after t c) (polls order))
+  all-done c p o e order on =
+      let b = begun c p o e in
+      let x = b .3 in
+      polled t bytes (x .isSound) i (x .item) (after t c) (b .0) (b .1) (b .2) (x .busy) (x .asking) order on .done
 
   module _ (order : List ℕ) (on : ThoseOn (view t) order) where
     abbrev its-heard : Bool

@@ -1,4 +1,4 @@
--- The number of each call's reply (document 01, "The calls" and the table of numbers).
+-- The number of each call's reply (document 01, "The calls" and the table of numbers; document 02, 2026-04 and 2026-05).
 use mathlib.Core.Bool.{Bool, true, false, not, cond, _&&_, _||_}
 use mathlib.Core.List.{List, [], _∷_}
 use Prim.Native.Nat.{ℕ, _-_, _^_}

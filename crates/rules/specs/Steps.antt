@@ -59,7 +59,7 @@ abbrev pub NoRound : Round → Type 0
 NoRound r = Fresh r none 0 0 noTarget
 
 -- ---- lay: "every item alike, .. no round." "Versions and generations start at 0." And document 02, 2026-02: "From now on lay puts all n stations in the
--- off set." What that means for polls, puts and reach is in OffAtFirst.antt.
+-- off set." What that means for polls, puts, reach and plan is in OffAtFirst.antt.
 pub record Laid (w : State) (n m value : ℕ) (config : List ℕ) : Type 0 where
   pub stations : w .n ≡ n
   pub items : w .m ≡ m
@@ -166,18 +166,21 @@ pub record Diagnosed (v : State) (r : Reply) : Type 0 where
 -- ---- plan, document 02, 2026-05: "how many polls first make a new round heard if the stations on the bus are polled in rising number, and how many
 -- rising puts then hold a write set of the configuration found; this second figure is 0 if none can". What that means for rounds is in PlanExact.antt of
 -- `plan_exact`.
+-- the order has exactly the stations on the bus, each once, rising; its start of k stations has the first k of them (`has` of Starts.antt of the plan)
+abbrev pub RisingOnBus : State → Type 0
+RisingOnBus v = Listing (λ s. (s < v .n) × (member (v .off) s ≡ false)) (orderOn v)
+
 -- puts at the k lowest stations on the bus are enough, where q are planned
 abbrev pub Enough : ℕ → ℕ → Type 0
 Enough q k = (1 ≤ q) × (q ≤ k)
 
 pub record Planned (v : State) (i : ℕ) (r : Reply) : Type 0 where
-  -- the order has exactly the stations on the bus, each once, rising; its start of k stations has the first k of them (`has` of Starts.antt of the plan)
-  pub order : Listing (λ s. (s < v .n) × (member (v .off) s ≡ false)) (orderOn v)
+  pub order : RisingOnBus v
   -- polling that many finds the configuration of a station g, and is heard; polling fewer is not
   pub g : ℕ
   pub heard : HeardBy v i (startOn v (r .first)) g
   pub fewest : (k : ℕ) → k < r .first → (s : ℕ) → HeardBy v i (startOn v k) s → ⊥
-  -- puts at so many stations hold a write set of it exactly if the figure is not 0 and they are not fewer; all of them do unless it is 0
+  -- puts at the k lowest stations hold a write set of it exactly if the figure is not 0 and k is not below it; those at all of them do unless it is 0
   pub written : (k : ℕ) → QuorumIn (writeSet (v .copies i g .config)) (startOn v k) ↔ Enough (r .second) k
   pub unwritten : (r .second ≡ 0) ↔ (QuorumIn (writeSet (v .copies i g .config)) (onBus v) → ⊥)
   pub noOther : r .third ≡ 0

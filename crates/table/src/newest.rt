@@ -47,8 +47,8 @@ fn newer_version(t: &[u8], n: usize, item: usize, best: Station, s: usize) -> St
     Station::At(b)
 }
 
-// Of two stations s, if its generation is greater than that of b; else b.
-pub fn newer_of(t: &[u8], n: usize, item: usize, b: usize, s: usize) -> usize
+// Station s, if its generation is greater than that of b; else b.
+pub fn newer_by_generation(t: &[u8], n: usize, item: usize, b: usize, s: usize) -> usize
     requires { ⌜ InTable (now t) n item × (b < n) × (s < n) ⌝ }
     ensures { λ r. ⌜ r ≡ cond (ltb (generationsOf (now (t .entry)) n item b) (generationsOf (now (t .entry)) n item s)) s b ⌝ }
 {
@@ -59,6 +59,7 @@ pub fn newer_of(t: &[u8], n: usize, item: usize, b: usize, s: usize) -> usize
     b
 }
 
+// The same of the newest before it, if there is one.
 fn newer_generation(t: &[u8], n: usize, item: usize, best: Station, s: usize) -> Station
     requires { ⌜ InTable (now t) n item × (s < n) × Below n (asOption best) ⌝ }
     ensures { λ r. ⌜ asOption r ≡ newer (generationsOf (now (t .entry)) n item) s (asOption best) ⌝ }
@@ -66,7 +67,7 @@ fn newer_generation(t: &[u8], n: usize, item: usize, best: Station, s: usize) ->
     let Station::At(b) = best else {
         return Station::At(s);
     };
-    Station::At(newer_of(t, n, item, b, s))
+    Station::At(newer_by_generation(t, n, item, b, s))
 }
 
 // The station of the set with the newest version of the item; the lowest on equal versions.

@@ -46,8 +46,8 @@ stepped c =
 with-station-requires : tie.Need-with-station-requires Inv-loop μ-loop
 with-station-requires c κs = search needs
 
-newer-of-requires : tie.Need-newer-of-requires Inv-loop μ-loop
-newer-of-requires c κs =
+newer-by-generation-requires : tie.Need-newer-by-generation-requires Inv-loop μ-loop
+newer-by-generation-requires c κs =
     let low = c .before .before in
     let tested = low .before in
     let turned = tested .before in
@@ -57,14 +57,14 @@ newer-of-requires c κs =
     (pre .0, omega (arith, leading, next), omega (arith, leading, next))
 
 -- g is then the newest of the stations polled
-newest-polled : (c : tie.After-newer-of Inv-loop μ-loop) → let start = c .before .before .before .before .before .before .before .before .args in
-    newest (generationsOf (start .t .now) (start .n) (start .item)) (c .before .with-station .result) (start .n) ≡ some (c .newer-of .result)
+newest-polled : (c : tie.After-newer-by-generation Inv-loop μ-loop) → let start = c .before .before .before .before .before .before .before .before .args in
+    newest (generationsOf (start .t .now) (start .n) (start .item)) (c .before .with-station .result) (start .n) ≡ some (c .newer-by-generation .result)
 newest-polled c =
     let low = c .before .before .before in
     let tested = low .before in
     let turned = tested .before in
     newest-taken (turned .loop .inv .0) (turned .before .before .before .pre .1) (turned .loop .inv .2) (tested .loop-test .taken) (low .lowest2 .ensures)
-    (c .before .with-station .ensures) (c .newer-of .ensures)
+    (c .before .with-station .ensures) (c .newer-by-generation .ensures)
 
 address-requires : tie.Need-address-requires Inv-loop μ-loop
 address-requires c κs =
@@ -123,7 +123,7 @@ first-heard-spec =
     without-lowest-requires
     add-polls
     with-station-requires
-    newer-of-requires
+    newer-by-generation-requires
     address-requires
     config-at-requires
     holds-read-set-requires

@@ -14,15 +14,15 @@ enum-told c = search needs
 returns : tie.Need-returns
 returns c = rw (c .enum-told .given .1)
 
-newer-of-requires : tie.Need-newer-of-requires
-newer-of-requires c κs =
+newer-by-generation-requires : tie.Need-newer-by-generation-requires
+newer-by-generation-requires c κs =
     let pre = c .before .before .before .before .pre in (pre .0, found-below (pre .2) (c .before .best .given .1), pre .1)
 
 returns-2 : tie.Need-returns-2
 returns-2 c =
     let told = c .before .before in
     let start = told .before .before .before .args in
-    rw (told .best .given .1, c .newer-of .ensures) (sym (newer-some (generationsOf (start .t .now) (start .n) (start .item)) _ _))
+    rw (told .best .given .1, c .newer-by-generation .ensures) (sym (newer-some (generationsOf (start .t .now) (start .n) (start .item)) _ _))
 
 pub newer-generation-spec : {M : Type 1} → statement M
-newer-generation-spec = tie.close (tie.spec enum-known-best enum-told returns newer-of-requires returns-2)
+newer-generation-spec = tie.close (tie.spec enum-known-best enum-told returns newer-by-generation-requires returns-2)

@@ -3,8 +3,8 @@ use lib.Dec.{ltb}
 use borrow.Author.Needs.{needs}
 use Rattle.table.specs.Search.{generationsOf}
 use Rattle.table.proofs.Search.{copy-range, copy-fits, compared}
-use Rattle.table.proofs.newest.newer_of.Statement.{statement}
-use Rattle.table.proofs.newest.newer_of.Tie as tie
+use Rattle.table.proofs.newest.newer_by_generation.Statement.{statement}
+use Rattle.table.proofs.newest.newer_by_generation.Tie as tie
 
 address-requires : tie.Need-address-requires
 address-requires c κs = let pre = c .before .pre in copy-range (pre .0) (pre .1)
@@ -37,8 +37,8 @@ returns c = rw (is-newer (c .before) ∙ c .if1 .taken)
 returns-2 : tie.Need-returns-2
 returns-2 c = rw (is-newer (c .before) ∙ c .if1 .left)
 
-pub newer-of-spec : {M : Type 1} → statement M
-newer-of-spec =
+pub newer-by-generation-spec : {M : Type 1} → statement M
+newer-by-generation-spec =
     tie.close
     (tie.spec
     address-requires
