@@ -245,6 +245,22 @@ FOR_EACH_SIDE uint64_t rising_generations(const implementation *with, scene *s)
     return 0;
 }
 
+/* The item is read and written at its last station alone. */
+FOR_EACH_SIDE uint64_t last_station_alone(const implementation *with, scene *s)
+{
+    uint8_t *copy = s->table + OSPREYSCREEN_HEAD_LENGTH;
+    unsigned last = 1u << (s->n - 1);
+
+    (void)with;
+    for (unsigned station = 0; station < s->n; station++, copy += OSPREYSCREEN_COPY_LENGTH) {
+        uint8_t *config = copy + OSPREYSCREEN_COPY_LENGTH - OSPREYSCREEN_CONFIGURATION_LENGTH;
+        memset(config, 0, OSPREYSCREEN_CONFIGURATION_LENGTH);
+        config[0] = config[16] = (uint8_t)last;
+        config[1] = config[17] = (uint8_t)(last >> 8);
+    }
+    return 0;
+}
+
 /* ---- Runs that are refused, and what goes before them ---- */
 
 /* The configuration with a first read set that misses the first write set. */
@@ -353,6 +369,7 @@ static const row ROWS[] = {
     {"plan", nothing, BY_SIDE(plan), NOTHING, OSPREYSCREEN_DONE},
     {"plan, stations off", drops, BY_SIDE(plan), NOTHING, OSPREYSCREEN_DONE},
     {"plan, generations rising", rising_generations, BY_SIDE(plan), NOTHING, OSPREYSCREEN_DONE},
+    {"plan, the last station", last_station_alone, BY_SIDE(plan), NOTHING, OSPREYSCREEN_DONE},
     {"read round", nothing, BY_SIDE(read_round), NOTHING, OSPREYSCREEN_DONE},
     {"write round", nothing, BY_SIDE(write_round), NOTHING, OSPREYSCREEN_DONE},
     {"change round", nothing, BY_SIDE(change_round), HEAD_AND_ITEM, OSPREYSCREEN_DONE},

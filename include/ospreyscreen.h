@@ -142,7 +142,7 @@ typedef struct {
  * given; no round. Looks at no old byte of the table and writes every byte.
  * A station stays off until it is linked with state 1: until then a poll or a
  * put of it in a round gets 6. Before the first link reach is 0 for every
- * item. Link each station once it is wired and answers.
+ * item, and plan gets 15. Link each station once it is wired and answers.
  * A configuration is 32 bytes: eight read sets, then eight write sets, two
  * bytes each, least significant byte first, bit i for station i. Unused
  * places are zero and come last on each side. It is valid if each side has a
@@ -272,7 +272,7 @@ ospreyscreen_reply ospreyscreen_diagnose(const uint8_t *table, size_t len);
 
 /*
  * Tells how many polls a new round on the item will take, and how many puts a
- * write after them, if it turns to the stations on the bus in rising number,
+ * write then needs, if it turns to the stations on the bus in rising number,
  * from the lowest on. Stations that are off do not count, nor does the round
  * that is open. Changes no byte.
  * Figures:
@@ -284,8 +284,8 @@ ospreyscreen_reply ospreyscreen_diagnose(const uint8_t *table, size_t len);
  *   puts is done, unless the version found is 2^64 - 1. A change needs as many
  *   configuration puts; its data puts go by the target. 0 means that puts at all
  *   stations on the bus hold no such set: a round with these polls can only read.
- * The figures are for the table as it is: a link, or a round on the item that
- * finishes, may change them. Another order of stations may take fewer.
+ * The figures are for the table as it is: a link, a change of the item that
+ * finishes or a lay may change them. Another order of stations may take fewer.
  * Refusals: 1 table, 2 item, 15 the round is not heard after any of these polls,
  * that of the last station on the bus included, as with nobody on the bus. Reach
  * is then 0. On a table that only these calls have changed since a lay that was

@@ -48,7 +48,7 @@ fn first_heard(t: &[u8], n: usize, item: usize, on: u16) -> FirstHeard
     FirstHeard::Never
 }
 
-// How many stations, from the start of the rising order, hold a write set of the configuration; 0 where all of them do not.
+// How many stations, from the start of the rising order, hold a write set of the configuration; 0 where even all of them hold none.
 fn puts_needed(config: &[u8], on: u16) -> u64
     ensures { λ r. ⌜ r ≡ placeFigure (firstStart (holdsWrite (now (config .entry))) (rising on)) ⌝ }
 {
