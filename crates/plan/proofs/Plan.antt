@@ -16,7 +16,7 @@ use Rattle.layout.specs.Newest.{hears}
 use Rattle.layout.proofs.Newer.{by-generation-same, hears-same}
 use Rattle.plan.specs.Starts.{rising, start, firstStart}
 use Rattle.plan.specs.Plan.{pollsNeeded, heardStart, foundByStart, putsNeeded}
-use Rattle.plan.proofs.Starts.{start-part, start-more, start-whole, never, at-first, before-first, in-order, passes-late}
+use Rattle.plan.proofs.Starts.{start-part, start-more, start-whole, at-first, before-first, in-order, passes-late}
 
 module _ (copies : ℕ → Copy) (on n : ℕ) where
   abbrev order : List ℕ
@@ -55,10 +55,6 @@ module _ (copies : ℕ → Copy) (on n : ℕ) where
     λ e. (polls, at-first (λ set. hears copies set n) order hears-nothing (promise .figure-place _ .1 e)),
     λ h. promise .figure-place _ .0 (passes-late (λ set. hears copies set n) order hears-nothing (h .0) (h .1) .0),
   )
-
-  pub out-of-hearing : polls ≡ 0 → (k : ℕ) → hears copies (start order k) n ≡ false
-  unfolding pollsNeeded
-  out-of-hearing = never (λ set. hears copies set n) order hears-nothing
 
   pub heard-then : 1 ≤ polls → hears copies (heardStart copies on n) n ≡ true
   unfolding pollsNeeded

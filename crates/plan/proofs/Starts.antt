@@ -138,7 +138,7 @@ module _ (test : ℕ → Bool) (order : List ℕ) where
             none-there (x ∷ o) q = absurd (omega arith)
         longest (suc m) z l h = (suc m, omega arith, omega arith, l, rw (take-all (suc m) order (omega arith)) h)
 
-    pub never : count ≡ 0 → (k : ℕ) → test (start order k) ≡ false
+    never : count ≡ 0 → (k : ℕ) → test (start order k) ≡ false
     never z k = fails (test (start order k)) (λ e. let p = passing-start k e in clash (p .4) (none-passes .0 z (p .0) (p .1) (p .2)))
 
     pub at-first : 1 ≤ count → test (start order count) ≡ true
