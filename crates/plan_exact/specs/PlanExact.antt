@@ -51,7 +51,7 @@ pub record PlannedRounds (t : Table) (i p q : ℕ) : Type 0 where
   pub writes : (j k value : ℕ) → j ≤ p → Passable (openWrite i value)
       → Closes (reply (afterAll t (openWrite i value ∷ polls (lowestOn (view t) j) ++ puts dataSort (lowestOn (view t) k))) commit .number) (j ≡ p)
       (SpentAmong (λ c. c .version) (view t) i (startOn (view t) j)) (Enough q k)
-  -- the change with data puts at all stations on the bus and configuration puts at the k lowest: they must hold a write set of the target as well
+  -- the change with data puts at all stations on the bus, which must hold a write set of the target, and configuration puts at the k lowest
   pub changes : (j k : ℕ) (target : List ℕ) → j ≤ p → Passable (openChange i target) → reply t (openChange i target) .number ≡ 0
       → Closes (reply (afterAll t (openChange i target ∷ polls (lowestOn (view t) j)
       ++ (puts dataSort (orderOn (view t)) ++ puts configSort (lowestOn (view t) k)))) commit .number) (j ≡ p)
