@@ -86,7 +86,7 @@ pub record PlanExact : Type 0 where
   -- by the calls
   pub rounds : (t : Table) (i : ℕ) → AreBytes t → reply t (plan i) .number ≡ 0 → view t .round .kind ≡ none
       → PlannedRounds t i (reply t (plan i) .first) (reply t (plan i) .second)
-  -- where it gets 15, no start is heard: by the copies, whatever round is open; by the polls of an opening that is done; and the read that polls any start gets 8
+  -- where it gets 15, no start is heard: by the copies, whatever round is open; by the polls of an opening that is done; and the read of any start gets 8
   pub no-start : (t : Table) (i : ℕ) → reply t (plan i) .number ≡ 15 → (k g : ℕ) → HeardBy (view t) i (startOn (view t) k) g → ⊥
   pub never-heard : (t : Table) (c : Call) (i : ℕ) → AreBytes t → Passable c → Opens c i → reply t c .number ≡ 0 → reply t (plan i) .number ≡ 15
       → NeverHeard (replies (after t c) (polls (orderOn (view t))))
