@@ -1,6 +1,6 @@
 -- Plan is exact.
 use mathlib.Core.Path.{_≡_, refl, sym, ap, _∙_}
-use mathlib.Core.Bool.{true, false}
+use mathlib.Core.Bool.{Bool, true, false}
 use mathlib.Core.List.{_∷_}
 use mathlib.Core.Logic.{_↔_, _⊎_, inl, inr, ⊎-elim}
 use Prim.Native.Nat.{ℕ, zero, suc, _≤_, _<_}
@@ -50,7 +50,7 @@ use Rattle.rules.proofs.WholeRounds.{begun, all-done, read-ends, write-ends, ch
 use Rattle.rules.proofs.Reading.{gives-entry, gives-after-abandon}
 use Rattle.rules.proofs.OnTheBus.{allHeard, canWrite, zero-told, write-told, reach-figure}
 use Rattle.plan_exact.specs.PlanExact.{FirstHeardAt, NeverHeard, PlannedRounds, OverLists, PlanExact}
-use Rattle.plan_exact.proofs.Rising.{heard-at, never-heard}
+use Rattle.plan_exact.proofs.Rising.{EachShows, each-shows, as-many, first-heard, never-heard}
 
 any-round : (t u : Table) (i : ℕ) → sound t ≡ true → sound u ≡ true → SameCopies (view t) (view u) → view u .off ≡ view t .off
     → reply u (plan i) ≡ reply t (plan i)
@@ -143,6 +143,16 @@ module _ (t : Table) (i : ℕ) where
   all-on : ThoseOn v (orderOn v)
   all-on s m = those-on (length (orderOn v)) s (rw (take-length (orderOn v)) m)
 
+  -- what each of the polls shows after an opening: whether those up to it are heard
+  abbrev heardUpTo : ℕ → Bool
+  heardUpTo k = hears copies (startOn v (suc k)) (v .n)
+
+  each-poll : AreBytes t → (c : Call) → Passable c → Opens c i → reply t c .number ≡ 0
+      → EachShows heardUpTo (replies (after t c) (polls (orderOn v)))
+  each-poll bytes c pass o d =
+      let x = begun t bytes i c pass o d .3 in
+      each-shows v (x .isSound) (is-sound t (x .isSound) .small) (orderOn v) all-on _ (after t c) (x .asking) (x .item) (x .busy) refl refl
+
   -- all of them make the stations on the bus
   whole : v .isSound ≡ true → joined 0 (orderOn v) ≡ onBus v
   whole s = rw (take-length (orderOn v)) at (all-started copies (onBus v) (v .n) (few-on v (is-sound t s .small)))
@@ -192,11 +202,10 @@ module _ (t : Table) (i : ℕ) where
           go : (m : ℕ) → p ≡ m → FirstHeardAt p (replies (after t c) (polls (orderOn v)))
           go zero z = let l = positive in absurd (omega arith)
           go (suc m) z =
-              let b = begun t bytes i c pass o d in
-              let x = b .3 in
               let listed = polls-listed copies (onBus v) (v .n) in
-              rw z (heard-at v (x .isSound) (is-sound t (x .isSound) .small) (orderOn v) all-on _ (after t c) (x .asking) (x .item) (x .busy) refl refl
-              m (omega arith) (λ k l. unheard-before copies (onBus v) (v .n) (suc k) (omega arith)) (rw z at (heard-then copies (onBus v) (v .n) positive)))
+              let many = as-many (orderOn v) (after t c) in
+              rw z (first-heard heardUpTo (replies (after t c) (polls (orderOn v))) (each-poll bytes c pass o d) m (omega arith)
+              (λ k l. unheard-before copies (onBus v) (v .n) (suc k) (omega arith)) (rw z at (heard-then copies (onBus v) (v .n) positive)))
 
       -- with no open round a read and a write are opened
       module _ (idle : v .round .kind ≡ none) where
@@ -232,11 +241,10 @@ module _ (t : Table) (i : ℕ) where
 never : (t : Table) (c : Call) (i : ℕ) → AreBytes t → Passable c → Opens c i → reply t c .number ≡ 0 → reply t (plan i) .number ≡ 15
     → NeverHeard (replies (after t c) (polls (orderOn (view t))))
 never t c i bytes pass o d e =
-    let b = begun t bytes i c pass o d in
-    let x = b .3 in
-    never-heard (view t) (x .isSound) (is-sound t (x .isSound) .small) (orderOn (view t)) (all-on t i) _ (after t c) (x .asking) (x .item) (x .busy) refl refl
-    (λ k l. unheard-start t i e (suc k))
+    let answers = replies (after t c) (polls (orderOn (view t))) in
+    never-heard (heardUpTo t i) answers (each-poll t i bytes c pass o d) (λ k. unheard-start t i e (suc k))
 
+-- the read of any start
 unread : (t : Table) (i k : ℕ) → AreBytes t → reply t (plan i) .number ≡ 15 → view t .round .kind ≡ none
     → reply (afterAll t (openRead i ∷ polls (lowestOn (view t) k))) commit .number ≡ 8
 unfolding needs
@@ -254,13 +262,13 @@ module _ (t : Table) (b : Book) (bytes : AreBytes t) (isSound : sound t ≡ true
   abbrev now : State
   now = view t
 
-  is : now .isSound ≡ true
+  sound-now : now .isSound ≡ true
   unfolding view
-  is = isSound
+  sound-now = isSound
 
   module _ (i : ℕ) (item : i < now .m) where
     valid-there : (s : ℕ) → s < now .n → valid (now .n) (now .copies i s .config) ≡ true
-    valid-there s l = is-sound t is .configs i s item l
+    valid-there s l = is-sound t sound-now .configs i s item l
 
     -- more polls keep a round heard, and every heard round finds the same configuration
     grows : (set more : ℕ) → set ⊆ more → hears (now .copies i) set (now .n) ≡ true → hears (now .copies i) more (now .n) ≡ true
@@ -273,7 +281,7 @@ module _ (t : Table) (b : Book) (bytes : AreBytes t) (isSound : sound t ≡ true
         current set (inv .kept i item) valid-there h .config ∙ sym (current more (inv .kept i item) valid-there k .config)
 
     reached : reply t (reach i) .first ≡ three (allHeard now i) (canWrite now i)
-    reached = reach-figure t bytes i is item
+    reached = reach-figure t bytes i sound-now item
 
   -- ---- where plan is done
   module _ (i : ℕ) (e : reply t (plan i) .number ≡ 0) where
@@ -306,7 +314,7 @@ module _ (t : Table) (b : Book) (bytes : AreBytes t) (isSound : sound t ≡ true
     can-write : (1 ≤ reply t (plan i) .second) ↔ (reply t (reach i) .first ≡ 3)
     can-write =
         let its = rw (figures t i e .0) at (same-config i item _ (onBus now) heard-first-polls all-heard) in
-        let none = unwritten (now .copies i) (onBus now) (now .n) its (few-on now (is-sound t is .small)) in
+        let none = unwritten (now .copies i) (onBus now) (now .n) its (few-on now (is-sound t sound-now .small)) in
         let three = write-told (allHeard now i) (canWrite now i) all-heard in
         rw (figures t i e .1, reached i item) (
           λ l. three .0 (either (canWrite now i) (λ c. c) (λ c. let z = none .1 c in absurd (omega arith))),
@@ -318,7 +326,7 @@ module _ (t : Table) (b : Book) (bytes : AreBytes t) (isSound : sound t ≡ true
 
   -- ---- where it gets 15
   unheard-bus : (i : ℕ) → reply t (plan i) .number ≡ 15 → allHeard now i ≡ false
-  unheard-bus i e = rw (take-length (orderOn now), whole t i is) at (unheard-start t i e (length (orderOn now)))
+  unheard-bus i e = rw (take-length (orderOn now), whole t i sound-now) at (unheard-start t i e (length (orderOn now)))
 
   out-of-reach : (i : ℕ) → reply t (reach i) .number ≡ 0 → (reply t (plan i) .number ≡ 15) ↔ (reply t (reach i) .first ≡ 0)
   unfolding needs

@@ -108,7 +108,7 @@ module _ (v : State) where
   kind = v .round .kind
 
   -- some start of the stations on the bus is heard
-  heard-start : (i : ℕ) → (isPlace (plannedPolls v i) ≡ true) ↔ InHearing v i
+  pub heard-start : (i : ℕ) → (isPlace (plannedPolls v i) ≡ true) ↔ InHearing v i
   heard-start i = (
     λ e. let h = in-hearing (v .copies i) (onBus v) (v .n) .0 e in let x = heard-by v i (startOn v (h .0)) .0 (h .1) in (h .0, x .0, x .1),
     λ h. in-hearing (v .copies i) (onBus v) (v .n) .1 (h .0, heard-by v i (startOn v (h .0)) .1 (h .1, h .2)),

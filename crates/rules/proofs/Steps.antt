@@ -25,7 +25,7 @@ use Rattle.layout.proofs.Held.{withOff, withRound}
 use Rattle.layout.proofs.Newer.{station-shown, none-shown, by-generation, place-same}
 use Rattle.layout.proofs.Stored.{stored}
 use Rattle.plan.specs.Plan.{orderOn, startOn, plannedPolls}
-use Rattle.plan.proofs.Plan.{in-hearing, heard-then, unheard-before, written-from, unwritten}
+use Rattle.plan.proofs.Plan.{heard-then, unheard-before, written-from, unwritten}
 use Rattle.rules.specs.Calls.{lay, poll, put, commit, link, reach, diagnose, plan}
 use Rattle.rules.specs.Figures.{figuresOf, closing}
 use Rattle.rules.specs.After.{stores}
@@ -34,6 +34,7 @@ use Rattle.rules.specs.Needs.{InHearing}
 use Rattle.rules.specs.Steps.{Joined, Removed, SameCopies, SameOrder, Fresh, Laid, Opened}
 use Rattle.rules.specs.Steps.{OwnPlaceShown, Polled, Put, Linked, Closing, Committed, Reached, Diagnosed, Planned}
 use Rattle.rules.specs.declared.Reply.{Reply}
+use Rattle.rules.proofs.Judged.{heard-start}
 use Rattle.rules.proofs.Demand1.{Shows}
 use Rattle.rules.proofs.Quorums.{version-found, generation-found, place-shown, heard-by}
 use Rattle.rules.proofs.Demand2.{commits}
@@ -250,7 +251,7 @@ module _ (v : State) (i : ℕ) (f : StateSound v) (h : InHearing v i) where
 
   -- some start is heard, so that the first has a place
   pub heard-first : 1 ≤ placeFigure (plannedPolls v i)
-  heard-first = promise .figure-place _ .1 (in-hearing copies on (v .n) .1 (h .0, heard-by v i (startOn v (h .0)) .1 (h .1, h .2)))
+  heard-first = promise .figure-place _ .1 (heard-start v i .1 h)
 
   pub plan-step : (r : Reply) → Shows r (figuresOf v (plan i)) → Planned v i r
   unfolding figuresOf

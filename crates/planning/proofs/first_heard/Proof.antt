@@ -56,8 +56,12 @@ newer-by-generation-requires c κs =
     let next = next-below (turned .loop .inv .0) (tested .loop-test .taken) (low .lowest2 .ensures) _ (pre .1) in
     (pre .0, omega (arith, leading, next), omega (arith, leading, next))
 
+-- from the station compared back to the call
+abbrev at-start : tie.After-newer-by-generation Inv-loop μ-loop → tie.Start Inv-loop μ-loop
+at-start c = let low = c .before .before .before in low .before .before .before .before .before
+
 -- g is then the newest of the stations polled
-newest-polled : (c : tie.After-newer-by-generation Inv-loop μ-loop) → let start = c .before .before .before .before .before .before .before .before .args in
+newest-polled : (c : tie.After-newer-by-generation Inv-loop μ-loop) → let start = at-start c .args in
     newest (generationsOf (start .t .now) (start .n) (start .item)) (c .before .with-station .result) (start .n) ≡ some (c .newer-by-generation .result)
 newest-polled c =
     let low = c .before .before .before in
@@ -67,20 +71,17 @@ newest-polled c =
     (c .before .with-station .ensures) (c .newer-by-generation .ensures)
 
 address-requires : tie.Need-address-requires Inv-loop μ-loop
-address-requires c κs =
-    let pre = c .before .before .before .before .before .before .before .before .pre in copy-range (pre .0) (is-station _ _ _ _ (newest-polled c))
+address-requires c κs = copy-range (at-start c .pre .0) (is-station _ _ _ _ (newest-polled c))
 
 config-at-requires : tie.Need-config-at-requires Inv-loop μ-loop
-config-at-requires c κs =
-    let pre = c .before .before .before .before .before .before .before .before .before .pre in
-    copy-fits (pre .0) (is-station _ _ _ _ (newest-polled (c .before))) (c .address .ensures)
+config-at-requires c κs = copy-fits (at-start (c .before) .pre .0) (is-station _ _ _ _ (newest-polled (c .before))) (c .address .ensures)
 
 holds-read-set-requires : tie.Need-holds-read-set-requires Inv-loop μ-loop
 holds-read-set-requires c κs = search needs
 
 -- what is tested
 is-tested : (c : tie.After-holds-read-set Inv-loop μ-loop) → let polled = c .before .before .before in
-    let start = polled .before .before .before .before .before .before .before .before .args in
+    let start = at-start polled .args in
     hears (copiesOf (start .t .now) (start .n) (start .item)) (polled .before .with-station .result) (start .n) ≡ c .holds-read-set .result
 is-tested c =
     let read = c .before in
