@@ -1,4 +1,4 @@
--- The numbers below a bound that pass a test, as a list: the smallest sets of votes, and stations in rising number.
+-- The numbers below a bound that pass a test, as a list: the smallest sets of votes, the sets of a standard form, and stations in rising number.
 use mathlib.Core.Path.{_≡_}
 use mathlib.Core.Bool.{Bool, cond}
 use mathlib.Core.List.{List, [], _∷_, _++_}

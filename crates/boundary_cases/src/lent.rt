@@ -2,13 +2,13 @@
 ghost use mathlib.Core.Path.{_≡_};
 ghost use lib.ListN.{length};
 
-// How many bytes of the space, and how many of a configuration. Four read sets and four write sets of it, 16 bits each, the first
-// least significant; the other places are unused.
+// How many bytes of the space, and how many of a configuration. Its sets, four to a number, 16 bits each, the first least significant:
+// the read sets at places 0 to 3 and 4 to 7, then the write sets. And how many bytes are kept.
 pub struct Lent {
     pub len: usize,
     pub config_len: usize,
-    pub read: u64,
-    pub write: u64,
+    pub sets: [u64; 4],
+    pub kept: usize,
 }
 
 // Stores a byte, and returns the one that was there; nothing is done past the end.
@@ -41,11 +41,13 @@ pub fn store(table: &mut [u8], at: u64, number: u64) {
 }
 
 // The configuration of these sets, and one zero byte more.
-pub fn config(read: u64, write: u64) -> [u8; 33]
+pub fn config(sets: [u64; 4]) -> [u8; 33]
     ensures { λ r. ⌜ 33 ≡ length r ⌝ }
 {
     let mut bytes = [0u8; 33];
-    store(&mut bytes, 0, read);
-    store(&mut bytes, 16, write);
+    store(&mut bytes, 0, sets[0]);
+    store(&mut bytes, 8, sets[1]);
+    store(&mut bytes, 16, sets[2]);
+    store(&mut bytes, 24, sets[3]);
     bytes
 }

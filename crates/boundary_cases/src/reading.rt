@@ -1,7 +1,7 @@
 // Calls as the script writes them: a word, and numbers in decimal.
 
 // The words by code, each a number of its letters' bytes, the last letter's the least significant. Codes 1 to 12 are those of the frames.
-const WORDS: [u64; 20] = [
+const WORDS: [u64; 24] = [
     0x6C6179, // 1 lay
     0x72656164, // 2 read
     0x7772697465, // 3 write
@@ -17,11 +17,15 @@ const WORDS: [u64; 20] = [
     0x6C656E64, // 13 lend
     0x7061697273, // 14 pairs
     0x73657473, // 15 sets
-    0x62797465, // 16 byte
-    0x6E756D626572, // 17 number
-    0x656C6576656E, // 18 eleven
-    0x7468726565, // 19 three
-    0x6669667465656E, // 20 fifteen
+    0x6D6F7265, // 16 more
+    0x62797465, // 17 byte
+    0x6E756D626572, // 18 number
+    0x6B656570, // 19 keep
+    0x73616D65, // 20 same
+    0x666F726D, // 21 form
+    0x656C6576656E, // 22 eleven
+    0x7468726565, // 23 three
+    0x6669667465656E, // 24 fifteen
 ];
 
 // A call as far as it is read: its word, its numbers, and which of them is read. The word has number 0.
@@ -33,7 +37,7 @@ pub struct Call {
 
 // The code of a word; 0 if it has none.
 pub fn code_of(word: u64) -> u64 {
-    let mut code = 20;
+    let mut code = 24;
     while code > 0 {
         if WORDS[code - 1] == word {
             return code as u64;

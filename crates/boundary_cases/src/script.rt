@@ -3,14 +3,14 @@ use crate::lent::Lent;
 use crate::perform::perform;
 use crate::reading::Call;
 
-// Does what the script says, in the space. `calls` says that the byte stands behind the bar of its line, and `shown` that there is
+// Does what the script says, in the space, with room for the bytes that are kept. `calls` says that the byte stands behind the bar of its line, and `shown` that there is
 // text before it.
-pub fn run(script: &[u8], space: &mut [u8]) {
+pub fn run(script: &[u8], space: &mut [u8], room: &mut [u8]) {
     let mut lent = Lent {
         len: 0,
         config_len: 0,
-        read: 0,
-        write: 0,
+        sets: [0u64; 4],
+        kept: 0,
     };
     let mut call = Call {
         word: 0,
@@ -25,7 +25,7 @@ pub fn run(script: &[u8], space: &mut [u8]) {
         let bar = b == b'|';
         let line_end = b == b'\n';
         let call_end = line_end | (b == b',');
-        lent = perform(space, lent, call, calls & call_end, shown);
+        lent = perform(space, room, lent, call, calls & call_end, shown);
         if (shown & line_end) | !(calls | bar | line_end) {
             let printed = [b];
             io::write_all(1, &printed);

@@ -6,6 +6,8 @@ use Rattle.basics.specs.Bytes.{littleEndian, bytesOf, over}
 use Rattle.quorum.specs.Sets.{member, used, holds, shares, within, join, minus, remove, full}
 use Rattle.quorum.specs.Configurations.{setAt, readSet, writeSet, usedFirst, someUsed, allWithin, sharesAll, allShare, validity, valid}
 use Rattle.quorum.specs.Configurations.{holdsPlace, firstPlace, orElse, firstRead, firstWrite, placeFigure, isPlace}
+use Rattle.form.specs.Sides.{places, sideBytes, configBytes}
+use Rattle.form.specs.Form.{isSetOf, containsAnother, stays, formSets, standardForm}
 use Rattle.layout.specs.Layout.{address, tableLength}
 use Rattle.layout.specs.Fields.{copyFrom}
 use Rattle.layout.specs.Soundness.{roundSound, copiesValid, soundness, sound}
@@ -25,6 +27,7 @@ unfolding all allBelow anyBelow littleEndian
     member used holds shares within join minus remove full
     setAt readSet writeSet usedFirst someUsed allWithin sharesAll allShare validity valid holdsPlace
     firstPlace orElse firstRead firstWrite placeFigure isPlace
+    isSetOf containsAnother stays formSets places sideBytes configBytes standardForm
     address tableLength copyFrom roundSound copiesValid soundness sound newest byVersion byGeneration hears view
     bytesOf over setOff setPolled setPuts setRound putData putConfig copyBytes repeated putCopies
     passing pollsNeeded putsNeeded

@@ -1,6 +1,6 @@
 -- The starred cases of document 01, "Trays through the house", the mistakes of "What growers' programs get wrong", the stations of a new table and the
--- house whose sets move, what holds a round up and how many polls it will take (document 02, 2026-02 to 2026-05), as one table: on bytes, lists of calls
--- from a lay on, of each of which the last reply is compared.
+-- house whose sets move, what holds a round up, how many polls it will take and a sheet that is not in its form (document 02, 2026-02 to 2026-06), as one
+-- table: on bytes, lists of calls from a lay on, of each of which the last reply is compared.
 use mathlib.Core.Path.{_≡_}
 use mathlib.Core.List.{List, [], _∷_, _++_}
 use mathlib.Core.Option.{Option, none, some}
@@ -39,6 +39,13 @@ fromPair = side 3 0 0 ++ side 3 0 0
 abbrev pub toOther : List ℕ
 toOther = side 4 0 0 ++ side 12 0 0
 
+-- a sheet that reads with {1, 2}, with all, with {0, 1}, and writes with all, with {1}, with {1}; and its form
+abbrev pub sheet : List ℕ
+sheet = side 6 7 3 ++ side 7 2 2
+
+abbrev pub sheetForm : List ℕ
+sheetForm = side 3 6 0 ++ side 2 0 0
+
 -- ---- calls
 -- "A round polls 0 and 1 before its puts or commit unless the case says otherwise."
 abbrev pub round : Call → List Call → List Call
@@ -68,6 +75,10 @@ changes = round (openChange 0 single) (dataPut 2 ∷ configPut 0 ∷ configPut 1
 -- the same change with the configuration at every station
 abbrev pub everywhere : List Call
 everywhere = round (openChange 0 single) (dataPut 2 ∷ configPut 0 ∷ configPut 1 ∷ configPut 2 ∷ commit ∷ [])
+
+-- a change to that sheet
+abbrev pub changesToSheet : List Call
+changesToSheet = round (openChange 0 sheet) (dataPut 1 ∷ configPut 0 ∷ configPut 1 ∷ commit ∷ [])
 
 -- "data puts 2, 3, configuration puts 0, 1": the change of the house of four
 abbrev pub moves : List Call
@@ -256,6 +267,23 @@ table =
     ∷ five (movesToFifth ++ (drops 3 ∷ plan 0 ∷ [])) 15 0 0 0
     -- the open round does not matter, whatever it has polled and put
     ∷ row (round (openWrite 0 510) (dataPut 2 ∷ drops 0 ∷ plan 0 ∷ [])) 0 2 2 0
+    -- ---- "One spelling of a configuration"
+    -- "read places follow the stored form": 0006 stands first on the sheet, and second in the form; in poll and in diagnose, after a lay and after a change
+    ∷ house 3 sheet (returns 1 ∷ returns 2 ∷ openRead 0 ∷ poll 1 ∷ poll 2 ∷ []) 0 2 0 0
+    ∷ house 3 sheetForm (returns 1 ∷ returns 2 ∷ openRead 0 ∷ poll 1 ∷ poll 2 ∷ []) 0 2 0 0
+    ∷ house 3 sheet (returns 1 ∷ returns 2 ∷ openRead 0 ∷ poll 1 ∷ poll 2 ∷ diagnose ∷ []) 0 0 2 2
+    ∷ row (changesToSheet ++ (openRead 0 ∷ poll 1 ∷ poll 2 ∷ [])) 0 2 0 0
+    ∷ row (changesToSheet ++ (openRead 0 ∷ poll 1 ∷ poll 2 ∷ diagnose ∷ [])) 0 0 2 2
+    -- "drop a set that contains another of its side, keep one of equals": of 0008, 0007, 0003 and of 0003, 0008, 0003 stays 0003, 0008
+    ∷ house 4 (side 8 7 3 ++ side 9 9 0) (returns 3 ∷ openRead 0 ∷ poll 3 ∷ []) 0 2 0 0
+    ∷ house 4 (side 3 8 3 ++ side 9 9 0) (returns 3 ∷ openRead 0 ∷ poll 3 ∷ []) 0 2 0 0
+    -- the same sets pass: {0, 1} reads too, {0, 2} does not, and a put at 1 alone is enough for a write
+    ∷ house 3 sheet (returns 0 ∷ returns 1 ∷ openRead 0 ∷ poll 0 ∷ poll 1 ∷ []) 0 1 0 0
+    ∷ house 3 sheet (returns 0 ∷ returns 2 ∷ openRead 0 ∷ poll 0 ∷ poll 2 ∷ []) 0 0 0 0
+    ∷ house 3 sheet (returns 1 ∷ returns 2 ∷ openWrite 0 510 ∷ poll 1 ∷ poll 2 ∷ dataPut 1 ∷ commit ∷ []) 0 510 1 0
+    -- 3 is judged on the sheet as it is given: a set that would be dropped names station 2 of two, and one of two equals stands behind an unused place
+    ∷ house 2 (side 1 5 0 ++ side 1 0 0) [] 3 0 0 0
+    ∷ row (openChange 0 (side 1 0 1 ++ side 1 0 0) ∷ []) 3 0 0 0
     ∷ []
 
 -- ---- the replies

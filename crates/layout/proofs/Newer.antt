@@ -16,7 +16,9 @@ use Rattle.quorum.specs.declared.Place.{Place}
 use Rattle.basics.proofs.Tests.{clash, below-suc, either}
 use Rattle.quorum.proofs.Promise.{promise}
 use Rattle.layout.specs.Fields.{Copy}
-use Rattle.layout.specs.Newest.{newest, newer, IsNewest, NewestExactly, copyOr, versionStation, stationFigure, byVersion, byGeneration, heardPlace, hears}
+use Rattle.layout.specs.Newest.{newest, newer, IsNewest, NewestExactly, noCopy, copyOr, versionStation, stationFigure}
+use Rattle.layout.specs.Newest.{byVersion, byGeneration, heardPlace, hears}
+use Rattle.layout.specs.View.{CopyBy}
 
 -- what `newest` gives
 abbrev pub Gives : (ℕ → ℕ) → ℕ → ℕ → Option ℕ → Type 0
@@ -197,47 +199,48 @@ module _ (key key′ : ℕ → ℕ) (set : ℕ) where
       newer-same none h = refl
       newer-same (some b) h = let l = h .station in rw (e b (omega arith), e k (omega arith))
 
-module _ (cs ds : ℕ → Copy) (set n : ℕ) (e : (s : ℕ) → s < n → cs s ≡ ds s) where
-  -- the copy that is newest by a field
-  same-copy : (field : Copy → ℕ) → copyOr cs (newest (λ s. field (cs s)) set n) ≡ copyOr ds (newest (λ s. field (ds s)) set n)
-  same-copy field =
-      rw (newest-same (λ s. field (cs s)) (λ s. field (ds s)) set n (λ s l. ap field (e s l)))
-      (go (newest (λ s. field (ds s)) set n) (is-newest (λ s. field (ds s)) set n))
-    where
-      go : (o : Option ℕ) → Gives (λ s. field (ds s)) set n o → copyOr cs o ≡ copyOr ds o
-      go none h = refl
-      go (some b) h = e b (h .station)
+-- two rows of copies that are related, one by one, give copies that are: the newest by a field in which related copies agree
+found-related : (R : Copy → Copy → Type 0) → R noCopy noCopy → (field : Copy → ℕ) → ((c d : Copy) → R c d → field c ≡ field d)
+    → (cs ds : ℕ → Copy) (set n : ℕ) → ((s : ℕ) → s < n → R (cs s) (ds s))
+    → R (copyOr cs (newest (λ s. field (cs s)) set n)) (copyOr ds (newest (λ s. field (ds s)) set n))
+found-related R nobody field agree cs ds set n e =
+    rw (newest-same (λ s. field (cs s)) (λ s. field (ds s)) set n (λ s l. agree (cs s) (ds s) (e s l)))
+    (go (newest (λ s. field (ds s)) set n) (is-newest (λ s. field (ds s)) set n))
+  where
+    go : (o : Option ℕ) → Gives (λ s. field (ds s)) set n o → R (copyOr cs o) (copyOr ds o)
+    go none h = nobody
+    go (some b) h = e b (h .station)
 
-  pub version-station-same : versionStation cs set n ≡ versionStation ds set n
-  version-station-same = newest-same (λ s. cs s .version) (λ s. ds s .version) set n (λ s l. ap (λ x. x .version) (e s l))
+-- the same numbers, and related configurations
+module _ (R : List ℕ → List ℕ → Type 0) (itself : (c : List ℕ) → R c c) (cs ds : ℕ → Copy) (set n : ℕ)
+    (e : (s : ℕ) → s < n → CopyBy R (cs s) (ds s)) where
+  nobody : CopyBy R noCopy noCopy
+  nobody = record { version = refl; value = refl; generation = refl; config = itself [] }
 
-  pub by-version-same : byVersion cs set n ≡ byVersion ds set n
+  pub version-station-by : versionStation cs set n ≡ versionStation ds set n
+  version-station-by = newest-same (λ s. cs s .version) (λ s. ds s .version) set n (λ s l. e s l .version)
+
+  pub version-by : CopyBy R (byVersion cs set n) (byVersion ds set n)
   unfolding byVersion
-  by-version-same = same-copy (λ x. x .version)
+  version-by = found-related (CopyBy R) nobody (λ c. c .version) (λ c d p. p .version) cs ds set n e
 
-  pub by-generation-same : byGeneration cs set n ≡ byGeneration ds set n
+  pub generation-by : CopyBy R (byGeneration cs set n) (byGeneration ds set n)
   unfolding byGeneration
-  by-generation-same = same-copy (λ x. x .generation)
+  generation-by = found-related (CopyBy R) nobody (λ c. c .generation) (λ c d p. p .generation) cs ds set n e
 
--- and of these, for what is heard, only generations and configurations
-module _ (cs ds : ℕ → Copy) (set n : ℕ) (e : (s : ℕ) → s < n → (cs s .generation ≡ ds s .generation) × (cs s .config ≡ ds s .config)) where
-  config-same : byGeneration cs set n .config ≡ byGeneration ds set n .config
-  unfolding byGeneration
-  config-same =
-      rw (newest-same (λ s. cs s .generation) (λ s. ds s .generation) set n (λ s l. e s l .0))
-      (go (newest (λ s. ds s .generation) set n) (is-newest (λ s. ds s .generation) set n))
-    where
-      go : (o : Option ℕ) → Gives (λ s. ds s .generation) set n o → copyOr cs o .config ≡ copyOr ds o .config
-      go none h = refl
-      go (some b) h = e b (h .station) .1
-
+-- for what is heard, only generations count, and what passes for reading
+module _ (cs ds : ℕ → Copy) (set n : ℕ)
+    (e : (s : ℕ) → s < n → (cs s .generation ≡ ds s .generation) × ((a : ℕ) → holdsRead (cs s .config) a ≡ holdsRead (ds s .config) a)) where
   pub hears-alike : hears cs set n ≡ hears ds set n
-  unfolding hears
-  hears-alike = ap (λ c. isPlace (firstRead c set)) config-same
+  unfolding hears byGeneration
+  hears-alike =
+      found-related (λ c d. (c .generation ≡ d .generation) × ((a : ℕ) → holdsRead (c .config) a ≡ holdsRead (d .config) a)) (refl, λ a. refl)
+      (λ c. c .generation) (λ c d p. p .0) cs ds set n e .1 set
 
 module _ (cs ds : ℕ → Copy) (set n : ℕ) (e : (s : ℕ) → s < n → cs s ≡ ds s) where
   pub place-same : heardPlace cs set n ≡ heardPlace ds set n
-  place-same = rw (by-generation-same cs ds set n e)
+  unfolding byGeneration
+  place-same = ap (λ c. firstRead (c .config) set) (found-related _≡_ refl (λ c. c .generation) (λ c d p. ap (λ x. x .generation) p) cs ds set n e)
 
   pub hears-same : hears cs set n ≡ hears ds set n
   unfolding hears

@@ -52,6 +52,30 @@ pub record SameContents (v w : State) : Type 0 where
   pub round : v .round ≡ w .round
   pub copies : (i s : ℕ) → i < w .m → s < w .n → v .copies i s ≡ w .copies i s
 
+-- ---- the same but for configurations, which are only related: of a copy, of a round, of a state. What this comes to where the same station sets pass is in
+-- Spellings.antt of `spelling`.
+pub record CopyBy (R : List ℕ → List ℕ → Type 0) (c d : Copy) : Type 0 where
+  pub version : c .version ≡ d .version
+  pub value : c .value ≡ d .value
+  pub generation : c .generation ≡ d .generation
+  pub config : R (c .config) (d .config)
+
+pub record RoundBy (R : List ℕ → List ℕ → Type 0) (r q : Round) : Type 0 where
+  pub kind : r .kind ≡ q .kind
+  pub item : r .item ≡ q .item
+  pub polled : r .polled ≡ q .polled
+  pub dataPuts : r .dataPuts ≡ q .dataPuts
+  pub configPuts : r .configPuts ≡ q .configPuts
+  pub value : r .value ≡ q .value
+  pub target : R (r .target) (q .target)
+
+pub record ContentsBy (R : List ℕ → List ℕ → Type 0) (v w : State) : Type 0 where
+  pub n : v .n ≡ w .n
+  pub m : v .m ≡ w .m
+  pub off : v .off ≡ w .off
+  pub round : RoundBy R (v .round) (w .round)
+  pub copies : (i s : ℕ) → i < w .m → s < w .n → CopyBy R (v .copies i s) (w .copies i s)
+
 -- ---- the open round: its item's copies, what its polled copies give, whether it is heard
 abbrev pub own : State → ℕ → Copy
 own v = v .copies (v .round .item)

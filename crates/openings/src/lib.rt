@@ -4,6 +4,7 @@ ghost use mathlib.Core.Bool.{true};
 ghost use Rattle.layout.specs.Soundness.{sound};
 ghost use Rattle.rules.specs.Calls.{openRead, openWrite, openChange, abandon};
 ghost use Rattle.rules.specs.Reply.{reply, after};
+use forming::form_of;
 use layout::CHANGE;
 use layout::NO_ROUND;
 use layout::READ;
@@ -16,7 +17,6 @@ use numbers::plain;
 use quorum::CONFIG_SIZE;
 use rules::Reply;
 use table::head::set_round;
-use table::number::config_bytes_at;
 
 pub fn open_read_on(t: &mut [u8], i: u64) -> Reply
     requires { ⌜ sound (now t) ≡ true ⌝ }
@@ -44,6 +44,7 @@ pub fn open_write_on(t: &mut [u8], i: u64, value: u64) -> Reply
     plain(DONE)
 }
 
+// The target is stored in standard form.
 pub fn open_change_on(t: &mut [u8], i: u64, target: &[u8]) -> Reply
     requires { ⌜ sound (now t) ≡ true ⌝ }
     ensures { λ r. ⌜ r ≡ reply (now (t .entry)) (openChange i (now (target .entry))) ⌝ }
@@ -53,7 +54,7 @@ pub fn open_change_on(t: &mut [u8], i: u64, target: &[u8]) -> Reply
     if number != DONE {
         return plain(number);
     }
-    set_round(t, CHANGE, i as u8, 0, config_bytes_at(target, 0));
+    set_round(t, CHANGE, i as u8, 0, form_of(target));
     plain(DONE)
 }
 

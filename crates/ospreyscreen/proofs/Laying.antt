@@ -1,10 +1,12 @@
 -- Lay: its number, and what its tests have shown.
 use mathlib.Core.Path.{_≡_, refl, sym}
+use mathlib.Core.Bool.{true}
 use mathlib.Core.List.{List}
 use Prim.Native.Nat.{ℕ, _≤_}
 use lib.ListN.{length}
 use borrow.Author.Tests.{eqb-true}
-use Rattle.quorum.specs.Configurations.{configSize}
+use Rattle.quorum.specs.Configurations.{valid}
+use Rattle.quorum.proofs.Promise.{promise}
 use Rattle.layout.specs.Layout.{tableLength}
 use Rattle.layout.specs.View.{view}
 use Rattle.rules.specs.Calls.{lay}
@@ -19,8 +21,12 @@ unfolding tests
 lay-number-is t n m value config = sym (lay-number (view t) (lay n m value config) refl)
 
 pub lay-room : (t : List ℕ) (n m value : ℕ) (config : List ℕ) → numberOf (view t) (lay n m value config) ≡ 0
-    → (1 ≤ n) × (n ≤ 16) × (1 ≤ m) × (m ≤ 32) × (length t ≡ tableLength n m) × (length config ≡ configSize)
+    → (1 ≤ n) × (n ≤ 16) × (1 ≤ m) × (m ≤ 32) × (length t ≡ tableLength n m)
 unfolding view needs
 lay-room t n m value config e =
     let a = allowed (view t) (lay n m value config) e in
-    (a .0 .0, a .0 .1, a .0 .2, a .0 .3, eqb-true _ _ (a .1 .0), a .1 .1 .0 .long)
+    (a .0 .0, a .0 .1, a .0 .2, a .0 .3, eqb-true _ _ (a .1 .0))
+
+pub lay-valid : (t : List ℕ) (n m value : ℕ) (config : List ℕ) → numberOf (view t) (lay n m value config) ≡ 0 → valid n config ≡ true
+unfolding needs
+lay-valid t n m value config e = promise .valid-exactly n config .1 (allowed (view t) (lay n m value config) e .1 .1 .0)

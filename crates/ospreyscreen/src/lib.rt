@@ -1,15 +1,18 @@
 // The calls as C links them, on any bytes and numbers. Each call on a table replies as `reply` says and leaves the table as `after` says;
-// every one but lay asks first whether the table is sound. Votes looks at no table.
+// every one but lay asks first whether the table is sound. Votes and the writer of standard forms look at no table.
 ghost use mathlib.Core.Path.{_≡_};
 ghost use Rattle.rules.specs.Calls.{lay, openRead, openWrite, openChange, poll, put, commit, abandon, link, reach, diagnose, plan};
 ghost use Rattle.rules.specs.Reply.{reply, after};
 ghost use Rattle.votes.specs.Votes.{votesReply, votesOutput};
+ghost use Rattle.spelling.specs.Writer.{formReply, formOutput};
 use calls::commit_on;
 use calls::diagnose_on;
 use calls::link_on;
 use calls::poll_on;
 use calls::put_on;
 use calls::reach_on;
+use form_writer::standard_form;
+use forming::form_of;
 use numbers::DONE;
 use numbers::UNSOUND;
 use numbers::lay_number;
@@ -39,7 +42,8 @@ pub extern "C" fn ospreyscreen_lay(
     if number != DONE {
         return plain(number);
     }
-    lay_bytes(table, n, m, value, config);
+    let form = form_of(config);
+    lay_bytes(table, n, m, value, &form);
     plain(DONE)
 }
 
@@ -167,4 +171,12 @@ pub extern "C" fn ospreyscreen_votes(votes: &[u8], read: u64, write: u64, out: &
     ensures { λ _. ⌜ now (out .exit) ≡ votesOutput (now (votes .entry)) read write (now (out .entry)) ⌝ }
 {
     plain(votes_to_configuration(votes, read, write, out))
+}
+
+#[no_mangle]
+pub extern "C" fn ospreyscreen_standard_form(n: u64, config: &[u8], out: &mut [u8]) -> Reply
+    ensures { λ r. ⌜ r ≡ formReply n (now (config .entry)) (now (out .entry)) ⌝ }
+    ensures { λ _. ⌜ now (out .exit) ≡ formOutput n (now (config .entry)) (now (out .entry)) ⌝ }
+{
+    plain(standard_form(n, config, out))
 }

@@ -10,10 +10,12 @@ use Rattle.basics.proofs.Tests.{clash, fails}
 use Rattle.basics.proofs.Listing.{passing-few}
 use Rattle.quorum.specs.Sets.{member}
 use Rattle.quorum.specs.Configurations.{placeFigure, isPlace, holdsWrite}
+use Rattle.quorum.specs.Promise.{SamePasses}
 use Rattle.quorum.proofs.Promise.{promise}
 use Rattle.layout.specs.Fields.{Copy}
 use Rattle.layout.specs.Newest.{hears}
-use Rattle.layout.proofs.Newer.{by-generation-same, hears-same}
+use Rattle.layout.specs.View.{CopyBy}
+use Rattle.layout.proofs.Newer.{generation-by, hears-alike}
 use Rattle.plan.specs.Starts.{rising, start, firstStart}
 use Rattle.plan.specs.Plan.{pollsNeeded, heardStart, foundByStart, putsNeeded}
 use Rattle.plan.proofs.Starts.{start-part, start-more, start-whole, at-first, before-first, in-order, passes-late}
@@ -89,12 +91,16 @@ module _ (copies : ℕ → Copy) (on n : ℕ) where
         go zero z e = z
         go (suc q) z e = clash (rw (all-started few) at (written-from (length order) .1 (omega (arith, z), puts-listed))) e
 
--- ---- only the copies that there are count
-module _ (cs ds : ℕ → Copy) (on n : ℕ) (e : (s : ℕ) → s < n → cs s ≡ ds s) where
+-- ---- only the copies that there are count, and of these only generations and what passes
+module _ (R : List ℕ → List ℕ → Type 0) (itself : (c : List ℕ) → R c c) (passes : (c d : List ℕ) → R c d → SamePasses c d)
+    (cs ds : ℕ → Copy) (on n : ℕ) (e : (s : ℕ) → s < n → CopyBy R (cs s) (ds s)) where
   pub polls-same : pollsNeeded cs on n ≡ pollsNeeded ds on n
   unfolding pollsNeeded
-  polls-same = promise .first-same _ _ _ (λ k l. hears-same cs ds (start (rising on) (suc k)) n e)
+  polls-same =
+      promise .first-same _ _ _ (λ k l. hears-alike cs ds (start (rising on) (suc k)) n (λ s h. (e s h .generation, passes _ _ (e s h .config) .reads)))
 
   pub puts-same : putsNeeded cs on n ≡ putsNeeded ds on n
   unfolding putsNeeded
-  puts-same = rw (polls-same, by-generation-same cs ds (heardStart ds on n) n e)
+  puts-same =
+      rw polls-same (promise .first-same _ _ _ (λ k l.
+      passes _ _ (generation-by R itself cs ds (heardStart ds on n) n e .config) .writes (start (rising on) (suc k))))

@@ -233,6 +233,10 @@ unfolding holds
 member-holds a b h =
     eq-eqb _ _ (same-members _ _ (λ i. member-and i a b ∙ same-test _ _ (and-right (member a i) (member b i)) (λ e. and-both _ _ (h i e) e)))
 
+pub subset-le : (a b : ℕ) → ((i : ℕ) → member a i ≡ true → member b i ≡ true) → a ≤ b
+unfolding holds
+subset-le a b h = let same : bitAnd b a ≡ a = eqb-true _ _ (member-holds b a h) in omega (arith, and-le-l b a)
+
 shares-member : (a b : ℕ) → shares a b ≡ true → (i : ℕ) × (member a i ≡ true) × (member b i ≡ true)
 unfolding shares
 shares-member a b e =

@@ -1,6 +1,6 @@
 -- What the crate promises of its definitions of sets and configurations: "the table layer relies on their promises alone". The crates above
--- rely on this record and on the contracts of `sets` and `validity`. These two, the code of this layer, open the definitions, and so do the
--- examples that are computed (`cases`, `runs`).
+-- rely on this record and on the contracts of `sets` and `validity`. These two, the code of this layer, open the definitions, and so do `form` and
+-- `forming`, which write configurations, and the examples that are computed (`cases`, `runs`).
 use mathlib.Core.Path.{_≡_}
 use mathlib.Core.Bool.{Bool, true, false, not, _&&_, _||_}
 use mathlib.Core.List.{List}
@@ -32,6 +32,11 @@ QuorumIn side set = Some 8 (LiesIn side set)
 -- k is the first place of a side that is used and whose set lies within the given one
 abbrev pub FirstIn : (ℕ → ℕ) → ℕ → ℕ → Type 0
 FirstIn side set k = (k < 8) × LiesIn side set k × ((j : ℕ) → j < k → LiesIn side set j → ⊥)
+
+-- the same station sets pass for reading, and the same for writing
+pub record SamePasses (c d : List ℕ) : Type 0 where
+  pub reads : (set : ℕ) → holdsRead c set ≡ holdsRead d set
+  pub writes : (set : ℕ) → holdsWrite c set ≡ holdsWrite d set
 
 -- ---- a configuration of n stations, as source 000, section 3, has it: "each of c.read and c.write is a nonempty collection of
 -- subsets of S, and .. every element of c.read has a nonempty intersection with every element of c.write"
@@ -102,6 +107,8 @@ pub record Promise : Type 0 where
   -- a set is used exactly if it has a member, and sets with the same members are equal
   pub used-member : (a : ℕ) → (used a ≡ true) ↔ ((i : ℕ) × (member a i ≡ true))
   pub same-members : (a b : ℕ) → a ⊆ b → b ⊆ a → a ≡ b
+  -- a set is no greater as a number than one that it lies within
+  pub subset-le : (a b : ℕ) → a ⊆ b → a ≤ b
   pub holds-members : (a b : ℕ) → (holds a b ≡ true) ↔ (b ⊆ a)
   pub shares-member : (a b : ℕ) → (shares a b ≡ true) ↔ ((i : ℕ) × (member a i ≡ true) × (member b i ≡ true))
   -- the lowest station of a set of 16 bits that has one is in it, and none below it is; to take a station out makes the number smaller.

@@ -15,6 +15,7 @@ use Rattle.layout.specs.Fields.{Copy, Kind, Round}
 use Rattle.layout.specs.Fields.{none as noRound, read as readRound, write as writeRound, change as changeRound}
 use Rattle.layout.specs.View.{State, own, foundByVersion, foundByGeneration, heard, SameContents}
 use Rattle.layout.proofs.Soundness.{RoundFacts, StateSound}
+use Rattle.form.specs.Form.{standardForm}
 use Rattle.layout.proofs.Stored.{stored}
 use Rattle.rules.specs.Calls.{lay, commit}
 use Rattle.rules.specs.Rules.{idle, written}
@@ -51,11 +52,11 @@ follows-like v w b l inv =
       entries = inv .entries;
     }
 
-pub keep-laid : (v : State) (b : Book) (n m value : ℕ) (config : List ℕ) → valid n config ≡ true → m ≤ 32
+pub keep-laid : (v : State) (b : Book) (n m value : ℕ) (config : List ℕ) → valid n (standardForm n config) ≡ true → m ≤ 32
     → Follows (next v (lay n m value config)) (step b (lay n m value config))
 keep-laid v b n m value config h q =
     record {
-      kept = λ j p. let r : j < 32 = omega arith in rw (getD-replicate 32 j (started value) (started 0) r) (kept-laid n value config h);
+      kept = λ j p. let r : j < 32 = omega arith in rw (getD-replicate 32 j (started value) (started 0) r) (kept-laid n value (standardForm n config) h);
       noted = refl;
       entries = length-replicate 32 (started value);
     }

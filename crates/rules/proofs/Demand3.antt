@@ -6,6 +6,7 @@ use Prim.Native.Nat.{ℕ, zero, suc}
 use native.Mathlib.Omega.{arith}
 use Rattle.basics.specs.Bytes.{AreBytes}
 use Rattle.quorum.proofs.Promise.{promise}
+use Rattle.form.proofs.Laws.{form-valid}
 use Rattle.layout.specs.Fields.{Kind}
 use Rattle.layout.specs.Fields.{none as noRound, read as readRound, write as writeRound, change as changeRound}
 use Rattle.layout.specs.Soundness.{sound}
@@ -65,7 +66,8 @@ unfolding needs
 begins t b n m value config h p e =
     let c = lay n m value config in
     let a = done-allowed t c e in
-    follows-like _ _ (step b c) (next-view t c e h p) (keep-laid (view t) b n m value config (promise .valid-exactly n config .1 (a .1 .1 .0)) (a .0 .3))
+    follows-like _ _ (step b c) (next-view t c e h p) (keep-laid (view t) b n m value config
+    (form-valid n config (promise .valid-exactly n config .1 (a .1 .1 .0))) (a .0 .3))
 
 -- what holds of every sound table that follows the book holds after every list of demand 3
 follows-all : (P : Table → Book → Type 0) → ((t : Table) (b : Book) → AreBytes t → sound t ≡ true → Follows (view t) b → P t b)

@@ -10,6 +10,7 @@ use Rattle.basics.specs.Bytes.{AreBytes}
 use Rattle.basics.proofs.Tests.{clash}
 use Rattle.layout.specs.Soundness.{sound}
 use Rattle.layout.specs.View.{Table, State, view, SameContents}
+use Rattle.layout.proofs.Held.{Holds, held-view}
 use Rattle.layout.proofs.Soundness.{StateSound, facts-sound}
 use Rattle.rules.specs.Calls.{Call, lay, isLay}
 use Rattle.rules.specs.Passed.{Passable}
@@ -43,15 +44,18 @@ like-sound v w l f =
       configs = rw (l .n, l .m) (λ i s p q. rw (l .copies i s p q) (f .configs i s p q));
     }
 
-pub after-sound : (t : Table) (c : Call) → AreBytes t → Passable c → reply t c .number ≡ 0 → sound (after t c) ≡ true
-after-sound t c b p e =
-    let h = holds-next t c e b p in
-    facts-sound (after t c) (record {
+-- and so is a table that holds one
+pub held-sound : (u : Table) (w : State) → Holds u w → StateSound w → sound u ≡ true
+held-sound u w h f =
+    facts-sound u (record {
       size = rw (h .n, h .m) (h .size);
       kind = h .kind;
       spare = h .spare;
-      state = like-sound (view (after t c)) (next (view t) c) (next-view t c e b p) (done-law t c e .isSound);
+      state = like-sound (view u) w (held-view u w h) f;
     })
+
+pub after-sound : (t : Table) (c : Call) → AreBytes t → Passable c → reply t c .number ≡ 0 → sound (after t c) ≡ true
+after-sound t c b p e = held-sound (after t c) (next (view t) c) (holds-next t c e b p) (done-law t c e .isSound)
 
 -- ---- a list of calls
 -- every call but a lay gets 1 exactly if the table is not sound

@@ -11,6 +11,8 @@ use borrow.Author.Tests.{eqb-true, eq-eqb}
 use Rattle.basics.specs.Bytes.{AreBytes}
 use Rattle.basics.proofs.Tests.{by-cases}
 use Rattle.quorum.proofs.Promise.{promise}
+use Rattle.form.specs.Form.{standardForm}
+use Rattle.form.proofs.Laws.{form-length, form-bytes, form-valid}
 use Rattle.quorum.specs.Configurations.{configSize}
 use Rattle.layout.specs.Layout.{tableLength}
 use Rattle.layout.specs.Fields.{Copy, Kind, none, read, write, change}
@@ -20,7 +22,7 @@ use Rattle.layout.specs.Updates.{setOff, noTarget, putCopies}
 use Rattle.basics.proofs.Parts.{read-zeros}
 use Rattle.layout.proofs.Fields.{off-only, polled-only, puts-only, round-only, target-length}
 use Rattle.layout.proofs.Soundness.{StateSound, sound-facts, is-sound, sound-head}
-use Rattle.layout.proofs.Held.{withOff, withCopies, Holds, holds-own, holds-off, holds-polled, holds-puts}
+use Rattle.layout.proofs.Held.{withOff, withCopies, Holds, holds-own, held-view, holds-off, holds-polled, holds-puts}
 use Rattle.layout.proofs.Stored.{Small, put-length, laid-length, committed, holds-copies, holds-laid}
 use Rattle.rules.specs.Calls.{Call, lay, openRead, openWrite, openChange, poll, put, commit, abandon, link, reach, diagnose, plan, isOff}
 use Rattle.rules.specs.Passed.{Passable}
@@ -111,15 +113,16 @@ module _ (t : Table) where
   pub law : (c : Call) → Allowed v c → Law t c
   unfolding needs done view figuresOf
   law (lay n m value config) a =
-      let ok = promise .valid-exactly n config .1 (a .1 .1 .0) in
-      let long = promise .valid-length n config ok in
+      let form = standardForm n config in
+      let ok = form-valid n config (promise .valid-exactly n config .1 (a .1 .1 .0)) in
+      let long = form-length n config in
       let size = a .0 in
       record {
-        isSound = laid-sound v n m value config size ok;
-        held = λ b p. holds-laid v n m value config (size .1) (omega arith) (p .0) long (p .1);
-        does = λ w r l q. laid-step v w n m value config (size .1) l;
+        isSound = laid-sound v n m value form size ok;
+        held = λ b p. holds-laid v n m value form (size .1) (omega arith) (p .0) long (form-bytes n config);
+        does = λ w r l q. laid-step v w n m value form (size .1) l;
         follows = λ b _. keep-laid v b n m value config ok (size .3);
-        size = laid-length n m value config long ∙ sym (eqb-true (length t) (tableLength n m) (a .1 .0));
+        size = laid-length n m value form long ∙ sym (eqb-true (length t) (tableLength n m) (a .1 .0));
       }
   law (openRead i) a =
       let f = renewed v (is-sound t (a .0)) read i 0 noTarget (a .1 .0) (refl, refl, refl, read-zeros configSize) in
@@ -140,15 +143,16 @@ module _ (t : Table) where
         size = round-only t (sound-head t (a .0)) 2 i value noTarget refl .size;
       }
   law (openChange i target) a =
-      let ok = promise .valid-exactly (v .n) target .1 (a .1 .1 .0) in
-      let long = promise .valid-length (v .n) target ok in
-      let f = renewed v (is-sound t (a .0)) change i 0 target (a .1 .0) (refl, ok) in
+      let form = standardForm (v .n) target in
+      let ok = form-valid (v .n) target (promise .valid-exactly (v .n) target .1 (a .1 .1 .0)) in
+      let long = form-length (v .n) target in
+      let f = renewed v (is-sound t (a .0)) change i 0 form (a .1 .0) (refl, ok) in
       record {
         isSound = f;
-        held = λ b p. opens t v (holds-own t b (a .0)) 3 i 0 target (omega arith) (omega arith) long p f;
-        does = λ w r l q. opened-step v w change i 0 target l;
+        held = λ b p. opens t v (holds-own t b (a .0)) 3 i 0 form (omega arith) (omega arith) long (form-bytes (v .n) target) f;
+        does = λ w r l q. opened-step v w change i 0 form l;
         follows = λ b k. record { kept = k .kept; noted = refl; entries = k .entries };
-        size = round-only t (sound-head t (a .0)) 3 i 0 target long .size;
+        size = round-only t (sound-head t (a .0)) 3 i 0 form long .size;
       }
   law (poll s) a =
       let f = polled-sound v (is-sound t (a .0)) s (a .1 .0) (a .1 .1 .0) in
@@ -241,8 +245,7 @@ module _ (t : Table) (c : Call) (e : reply t c .number ≡ 0) where
 
   -- what the rules see after it
   pub next-view : AreBytes t → Passable c → SameContents (view (after t c)) (next (view t) c)
-  unfolding view
-  next-view b p = let h = holds-next b p in record { n = h .n; m = h .m; off = h .off; round = h .round; copies = h .copies }
+  next-view b p = held-view (after t c) (next (view t) c) (holds-next b p)
 
   -- it does what Steps.antt says
   pub done-step : AreBytes t → Passable c → Step c (view t) (view (after t c)) (reply t c)

@@ -1,6 +1,6 @@
 -- Where no part of some stations is heard on an item, no round that has polled only these finishes, until a lay or a change of the item: along every list of
 -- calls. Only a change stores generations and configurations.
-use mathlib.Core.Path.{_≡_, refl, sym, _∙_}
+use mathlib.Core.Path.{_≡_, refl, sym, ap, _∙_}
 use mathlib.Core.Bool.{true, false}
 use mathlib.Core.List.{List, [], _∷_}
 use Prim.Native.Nat.{ℕ, zero, suc, _<_}
@@ -9,6 +9,7 @@ use lib.Dec.{eqb}
 use borrow.Author.Tests.{eqb-true}
 use Rattle.basics.specs.Bytes.{AreBytes}
 use Rattle.basics.proofs.Tests.{clash, either}
+use Rattle.quorum.specs.Configurations.{holdsRead}
 use Rattle.quorum.specs.Promise.{_⊆_}
 use Rattle.quorum.proofs.Promise.{promise}
 use Rattle.layout.specs.Fields.{none, change}
@@ -55,7 +56,8 @@ module _ (i these : ℕ) where
 
     pub commit-deaf : (w .round .kind ≡ change → w .round .item ≡ i → ⊥) → Deaf (next w commit)
     commit-deaf other b set inside =
-        hears-alike (next w commit .copies i) (w .copies i) set (w .n) (λ s _. commit-leaves other s) ∙ h b set inside
+        hears-alike (next w commit .copies i) (w .copies i) set (w .n)
+        (λ s _. let same = commit-leaves other s in (same .0, λ a. ap (λ c. holdsRead c a) (same .1))) ∙ h b set inside
 
     deaf-kept : (c : Call) → Other c → Deaf (next w c)
     deaf-kept (lay n m value config) o = clash refl (o .0)

@@ -12,6 +12,7 @@ use Rattle.basics.proofs.Tests.{clash, by-cases, and-left, and-right}
 use Rattle.quorum.specs.Sets.{member, remove}
 use Rattle.quorum.specs.Promise.{QuorumIn}
 use Rattle.quorum.proofs.Promise.{promise}
+use Rattle.form.specs.Form.{standardForm}
 use Rattle.layout.specs.Fields.{none}
 use Rattle.layout.specs.Soundness.{sound}
 use Rattle.layout.specs.View.{Table, State, view, onBus, heard}
@@ -243,7 +244,7 @@ all-on (suc count) k t b f few h =
         (omega (arith, x, y), omega (arith, x))
 
 all-linked : (t : Table) (n m value : ℕ) (config : List ℕ) → AreBytes t → Passable (lay n m value config) → reply t (lay n m value config) .number ≡ 0
-    → afterAll t (lay n m value config ∷ links 0 n) ≡ setOff (laid n m value config) 0
+    → afterAll t (lay n m value config ∷ links 0 n) ≡ setOff (laid n m value (standardForm n config)) 0
 unfolding afterAll done
 all-linked t n m value config b p e =
     let c = lay n m value config in

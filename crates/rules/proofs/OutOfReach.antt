@@ -11,6 +11,7 @@ use Rattle.basics.proofs.Tests.{clash, or-cases}
 use Rattle.quorum.specs.Sets.{member}
 use Rattle.quorum.specs.Promise.{_⊆_}
 use Rattle.quorum.proofs.Promise.{promise}
+use Rattle.form.specs.Form.{standardForm}
 use Rattle.layout.specs.Fields.{Kind, none, read, write, change}
 use Rattle.layout.specs.Newest.{hears}
 use Rattle.layout.specs.View.{Table, State, view, heard, SameContents, onBus}
@@ -108,7 +109,7 @@ module _ (i : ℕ) where
     kept (lay n m value config) a fewer = laid-kept n m value config a fewer
     kept (openRead j) a fewer = opened-kept read j 0 noTarget
     kept (openWrite j value) a fewer = opened-kept write j value noTarget
-    kept (openChange j target) a fewer = opened-kept change j 0 target
+    kept (openChange j target) a fewer = opened-kept change j 0 (standardForm (w .n) target)
     kept (poll s) a fewer = poll-kept s a fewer
     kept (put s sort) a fewer = with-round (next w (put s sort)) fewer refl refl refl (h .polled)
     kept commit a fewer = commit-kept a fewer

@@ -10,6 +10,7 @@ use Rattle.quorum.specs.Sets.{member, shares, within, join, remove, full}
 use Rattle.quorum.specs.Configurations.{valid, configSize}
 use Rattle.basics.proofs.Tests.{clash, by-cases, and-left, and-right, or-cases, fails}
 use Rattle.quorum.proofs.Promise.{promise}
+use Rattle.form.specs.Form.{standardForm}
 use Rattle.layout.specs.Fields.{Copy, Kind, none, read, write, change, Round}
 use Rattle.layout.specs.View.{State}
 use Rattle.layout.specs.Updates.{noTarget}
@@ -26,10 +27,10 @@ use Rattle.rules.specs.Needs.{RightPut}
 use Rattle.layout.proofs.Stored.{committed, all-within, started}
 
 abbrev pub next : State → Call → State
-next v (lay n m value config) = started v n m value config
+next v (lay n m value config) = started v n m value (standardForm n config)
 next v (openRead i) = withRound v (opened read i 0 noTarget)
 next v (openWrite i value) = withRound v (opened write i value noTarget)
-next v (openChange i target) = withRound v (opened change i 0 target)
+next v (openChange i target) = withRound v (opened change i 0 (standardForm (v .n) target))
 next v (poll s) = withRound v (withPoll (v .round) s)
 next v (put s sort) = withRound v (withPut (v .round) s (isData sort))
 next v commit = withRound (withCopies v (committed v (stores (closing v (v .round .kind)) (v .round .target)))) (opened none 0 0 noTarget)

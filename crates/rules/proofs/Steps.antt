@@ -23,7 +23,7 @@ use Rattle.layout.proofs.Fields.{opened}
 use Rattle.layout.proofs.Soundness.{StateSound}
 use Rattle.layout.proofs.Held.{withOff, withRound}
 use Rattle.layout.proofs.Newer.{station-shown, none-shown, by-generation, place-same}
-use Rattle.layout.proofs.Stored.{stored}
+use Rattle.layout.proofs.Stored.{stored, started}
 use Rattle.plan.specs.Plan.{orderOn, startOn, plannedPolls}
 use Rattle.plan.proofs.Plan.{heard-then, unheard-before, written-from, unwritten}
 use Rattle.rules.specs.Calls.{lay, poll, put, commit, link, reach, diagnose, plan}
@@ -274,7 +274,7 @@ module _ (v : State) (i : ℕ) (f : StateSound v) (h : InHearing v i) where
       }
 
 -- ---- lay
-pub laid-step : (v w : State) (n m value : ℕ) (config : List ℕ) → n ≤ 16 → SameContents w (next v (lay n m value config)) → Laid w n m value config
+pub laid-step : (v w : State) (n m value : ℕ) (config : List ℕ) → n ≤ 16 → SameContents w (started v n m value config) → Laid w n m value config
 laid-step v w n m value config few l =
     record {
       stations = l .n;

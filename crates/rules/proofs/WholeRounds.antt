@@ -11,8 +11,10 @@ use Rattle.basics.proofs.Tests.{clash}
 use Rattle.plan.specs.Starts.{among, joined}
 use Rattle.plan.proofs.Starts.{member-of}
 use Rattle.quorum.specs.Promise.{_⊆_}
-use Rattle.quorum.specs.Configurations.{firstRead, holdsWrite}
+use Rattle.quorum.specs.Configurations.{valid, firstRead, holdsWrite}
 use Rattle.quorum.proofs.Promise.{promise}
+use Rattle.form.specs.Form.{standardForm}
+use Rattle.form.proofs.Laws.{form-writes}
 use Rattle.layout.specs.Fields.{Copy, Kind, none, read, write, change, Round}
 use Rattle.layout.specs.Newest.{IsNewest, byVersion, byGeneration, hears}
 use Rattle.layout.specs.Rounds.{withPolled, withPuts}
@@ -245,18 +247,23 @@ module _ (t : Table) (bytes : AreBytes t) (i : ℕ) where
       let a = done-allowed t c e in
       begins c write x noTarget (a-round write .0 refl) p e (a .0) (a .1 .0) (next-view t c e bytes p)
 
-  change-begun : (l : List ℕ) → Passable (openChange i l) → reply t (openChange i l) .number ≡ 0 → Begun t (openChange i l) change i 0 l
+  change-begun : (l : List ℕ) → Passable (openChange i l) → reply t (openChange i l) .number ≡ 0 → Begun t (openChange i l) change i 0 (standardForm (view t .n) l)
   unfolding needs
   change-begun l p e =
       let c = openChange i l in
       let a = done-allowed t c e in
-      begins c change 0 l (a-round change .0 refl) p e (a .0) (a .1 .0) (next-view t c e bytes p)
+      begins c change 0 (standardForm (view t .n) l) (a-round change .0 refl) p e (a .0) (a .1 .0) (next-view t c e bytes p)
+
+  -- 3 is judged on the spelling given
+  change-judged : (l : List ℕ) → reply t (openChange i l) .number ≡ 0 → valid (view t .n) l ≡ true
+  unfolding needs
+  change-judged l e = promise .valid-exactly (view t .n) l .1 (done-allowed t (openChange i l) e .1 .1 .0)
 
   -- whichever it is
   pub begun : (c : Call) → Passable c → Opens c i → reply t c .number ≡ 0 → (k : Kind) × (x : ℕ) × (target : List ℕ) × Begun t c k i x target
   begun c p of-read e = (read, 0, noTarget, read-begun e)
   begun c p (of-write {value = x}) e = (write, x, noTarget, write-begun x p e)
-  begun c p (of-change {target = l}) e = (change, 0, l, change-begun l p e)
+  begun c p (of-change {target = l}) e = (change, 0, standardForm (view t .n) l, change-begun l p e)
 
   -- its polls of stations on the bus are done
   pub all-done : (c : Call) → Passable c → Opens c i → reply t c .number ≡ 0 → (order : List ℕ) → ThoseOn (view t) order
@@ -299,4 +306,5 @@ module _ (t : Table) (bytes : AreBytes t) (i : ℕ) where
         let u = after t (openChange i target) in
         let last-puts = puts configSort others in
         rw (after-both u (polls order) (puts dataSort places ++ last-puts) ∙ after-both (afterAll u (polls order)) (puts dataSort places) last-puts)
-        (change-closes t bytes (b .isSound) i (b .item) order on places there others elsewhere u target (b .asking) h w)
+        (change-closes t bytes (b .isSound) i (b .item) order on places there others elsewhere u (standardForm (view t .n) target) (b .asking) h
+        (λ x. rw (form-writes (view t .n) target (change-judged target e) (joined 0 places)) (w x)))

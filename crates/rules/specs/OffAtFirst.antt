@@ -1,7 +1,7 @@
 -- "New stations start off the bus" (document 02, 2026-02). After a lay that is done every station is off (`Laid` of Steps.antt). From then on, over every
 -- list of calls, a station is on the bus exactly if the last call that moved it, a lay or a link of it, was a link that brought it on. So in a round a
 -- poll or a put at a station gets 6 exactly while it is not on, and while no station is on reach gives 0 for every item, and plan gets 15. With "a link
--- call per station" behind it, a lay gives the table that document 01's lay gave.
+-- call per station" behind it, a lay gives the table that document 01's lay gave, with the configuration in its form (2026-06).
 use mathlib.Core.Path.{_≡_}
 use mathlib.Core.Bool.{Bool, false, not, cond}
 use mathlib.Core.List.{List, [], _∷_}
@@ -10,6 +10,7 @@ use Prim.Native.Nat.{ℕ, zero, suc, _<_}
 use lib.Dec.{eqb}
 use Rattle.basics.specs.Bytes.{AreBytes}
 use Rattle.quorum.specs.Sets.{member}
+use Rattle.form.specs.Form.{standardForm}
 use Rattle.layout.specs.Fields.{none}
 use Rattle.layout.specs.View.{Table, view}
 use Rattle.layout.specs.Updates.{setOff, laid}
@@ -70,4 +71,5 @@ pub record OffAtFirst : Type 0 where
       → (reply (after t (lay n m value config)) (reach i) .number ≡ 0) × ZeroFigures (reply (after t (lay n m value config)) (reach i))
   -- "all stations on", and every other byte as the lay left it
   pub all-linked : (t : Table) (n m value : ℕ) (config : List ℕ) → AreBytes t → Passable (lay n m value config)
-      → reply t (lay n m value config) .number ≡ 0 → afterAll t (lay n m value config ∷ links 0 n) ≡ setOff (laid n m value config) 0
+      → reply t (lay n m value config) .number ≡ 0 → afterAll t (lay n m value config ∷ links 0 n)
+      ≡ setOff (laid n m value (standardForm n config)) 0

@@ -14,6 +14,7 @@ use Rattle.basics.specs.Bytes.{AreBytes}
 use Rattle.quorum.specs.Sets.{member}
 use Rattle.quorum.specs.Configurations.{readSet, writeSet}
 use Rattle.quorum.specs.Promise.{QuorumIn, FirstIn}
+use Rattle.form.specs.Form.{standardForm}
 use Rattle.layout.specs.Fields.{Kind, none, read, write, change, Round}
 use Rattle.layout.specs.Newest.{IsNewest}
 use Rattle.layout.specs.View.{Table, State, view, onBus, own}
@@ -185,12 +186,13 @@ pub record Planned (v : State) (i : ℕ) (r : Reply) : Type 0 where
   pub unwritten : (r .second ≡ 0) ↔ (QuorumIn (writeSet (v .copies i g .config)) (onBus v) → ⊥)
   pub noOther : r .third ≡ 0
 
--- the state before a call, the state after it, and its reply
+-- the state before a call, the state after it, and its reply. Document 02, 2026-06: "Lay and open change store this form." What the form is to the
+-- configuration given is in StandardForm.antt of `spelling`.
 abbrev pub Step : Call → State → State → Reply → Type 0
-Step (lay n m value config) v w r = Laid w n m value config
+Step (lay n m value config) v w r = Laid w n m value (standardForm n config)
 Step (openRead i) v w r = Opened v w read i 0 noTarget
 Step (openWrite i value) v w r = Opened v w write i value noTarget
-Step (openChange i target) v w r = Opened v w change i 0 target
+Step (openChange i target) v w r = Opened v w change i 0 (standardForm (v .n) target)
 Step (poll s) v w r = Polled v w s r
 Step (put s sort) v w r = Put v w s sort
 Step commit v w r = Committed v w r

@@ -6,6 +6,8 @@ use Rattle.basics.specs.Tests.{all, allBelow, anyBelow}
 use Rattle.quorum.specs.Sets.{member, used, holds, shares, within, join, minus, remove, full}
 use Rattle.quorum.specs.Configurations.{setAt, readSet, writeSet, usedFirst, someUsed, allWithin, sharesAll, allShare}
 use Rattle.quorum.specs.Configurations.{validity, valid, holdsPlace, firstPlace, orElse, firstRead, firstWrite, placeFigure, isPlace}
+use Rattle.form.specs.Sides.{places, sideBytes, configBytes}
+use Rattle.form.specs.Form.{isSetOf, containsAnother, stays, formSets, standardForm}
 use Rattle.layout.specs.Layout.{address, tableLength}
 use Rattle.layout.specs.Fields.{copyFrom}
 use Rattle.layout.specs.Soundness.{roundSound, copiesValid, soundness, sound}
@@ -41,5 +43,5 @@ unfolding text chars shown littleEndian isDigit allDigits valueOf byteOf bytesIn
     figuresOf done tableLength address sound soundness roundSound copiesValid all allBelow anyBelow valid validity setAt readSet writeSet usedFirst
     someUsed allWithin sharesAll allShare holdsPlace firstPlace orElse firstRead firstWrite placeFigure isPlace member used holds shares within join
     minus remove full copyFrom bytesOf over setOff setPolled setPuts setRound putData putConfig copyBytes repeated putCopies newest byVersion
-    byGeneration hears passing pollsNeeded putsNeeded frameCase frameReplies mixedCase mixedReplies
+    byGeneration hears passing pollsNeeded putsNeeded isSetOf containsAnother stays formSets places sideBytes configBytes standardForm frameCase frameReplies mixedCase mixedReplies
 frame-cases = refl

@@ -1,3 +1,2 @@
-mod Inserting
 pub mod Occurrences
 mod Ranks

@@ -1,6 +1,5 @@
 mod Growing
 mod Searching
-mod Output
 mod Answers
 mod Picking
 mod Weighing

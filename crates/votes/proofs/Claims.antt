@@ -12,6 +12,8 @@ use Rattle.basics.proofs.Tests.{_also_, either, all-true, true-all, or-false-le
 use Rattle.quorum.specs.Configurations.{configSize, readSet, writeSet}
 use Rattle.quorum.specs.Promise.{Valid}
 use Rattle.quorum.proofs.Promise.{promise}
+use Rattle.form.specs.Sides.{sideBytes, configBytes}
+use Rattle.form.proofs.Places.{length-config, bytes-config, read-back, written-back}
 use Rattle.layout.specs.Layout.{tableLength}
 use Rattle.layout.specs.View.{Table, view}
 use Rattle.rules.specs.Calls.{lay}
@@ -20,12 +22,11 @@ use Rattle.rules.specs.Reply.{reply}
 use Rattle.rules.proofs.Quorums.{passes, negated}
 use Rattle.rules.proofs.Chains.{Decides, exactly}
 use Rattle.rules.proofs.Judged.{numbered}
-use Rattle.votes.specs.Votes.{total, trueVotes, tooMany, votesRefusals, votesNumber, sideBytes, configurationOf, votesOutput}
+use Rattle.votes.specs.Votes.{total, trueVotes, tooMany, votesRefusals, votesNumber, configurationOf, votesOutput}
 use Rattle.votes.specs.Claims.{MoreThanEight, TrueVotes, votesNeeds, Configured, Claims}
 use Rattle.votes.proofs.Laws.{no-votes, its-votes, votes-full, sets-share, no-less}
 use Rattle.votes.proofs.Listing.{more-than-eight}
-use Rattle.votes.proofs.Places.{length-config, bytes-config, read-back, written-back}
-use Rattle.votes.proofs.Sides.{Filled, fill, lists, holds-exactly, is-side}
+use Rattle.votes.proofs.Sides.{Listed, fill, lists-smallest, holds-exactly, is-side}
 
 -- ---- the number
 pub true-votes : (votes : List ℕ) (read write : ℕ) → (all (trueVotes votes read write) ≡ true) ↔ TrueVotes votes read write
@@ -97,16 +98,16 @@ module _ (votes : List ℕ) (read write : ℕ) (sheet : TrueVotes votes read wri
   abbrev config : List ℕ
   config = configurationOf votes read write
 
-  reads : Filled votes read (readSet config)
-  unfolding configurationOf sideBytes
+  reads : Listed votes read (readSet config)
+  unfolding configurationOf configBytes sideBytes
   reads = fill votes read (readSet config) (sheet .few) (sheet .read-positive) (sheet .read-reached) (no-more .0) (read-back _ _)
 
-  writes : Filled votes write (writeSet config)
-  unfolding configurationOf sideBytes
+  writes : Listed votes write (writeSet config)
+  unfolding configurationOf configBytes sideBytes
   writes = fill votes write (writeSet config) (sheet .few) (sheet .write-positive) (sheet .write-reached) (no-more .1) (written-back _ _)
 
   facts : Valid (length votes) config
-  unfolding configurationOf sideBytes
+  unfolding configurationOf configBytes sideBytes
   facts =
       record {
         positive = sheet .some;
@@ -115,7 +116,7 @@ module _ (votes : List ℕ) (read write : ℕ) (sheet : TrueVotes votes read wri
         reads = is-side reads;
         writes = is-side writes;
         meet = λ j k l m p q.
-            let s = sets-share votes read write _ _ (sheet .together) (lists reads .only j l p .enough) (lists writes .only k m q .enough) in
+            let s = sets-share votes read write _ _ (sheet .together) (lists-smallest reads .only j l p .enough) (lists-smallest writes .only k m q .enough) in
             (s .0, s .2 .0, s .2 .1);
       }
 
@@ -127,15 +128,15 @@ module _ (votes : List ℕ) (read write : ℕ) (sheet : TrueVotes votes read wri
       ((sheet .some, sheet .few, low, high), (eq-eqb (length table) (tableLength (length votes) m) long, (facts, tt)))
 
   configured : Configured votes read write config
-  unfolding configurationOf sideBytes
+  unfolding configurationOf configBytes sideBytes
   configured =
       record {
         bytes = bytes-config _ _;
         is-valid = promise .valid-exactly (length votes) config .1 facts;
         read-exactly = λ set. Iff·trans (promise .holds-read config set) (holds-exactly reads set);
         write-exactly = λ set. Iff·trans (promise .holds-write config set) (holds-exactly writes set);
-        reads = lists reads;
-        writes = lists writes;
+        reads = lists-smallest reads;
+        writes = lists-smallest writes;
         lay-takes = lay-takes;
       }
 

@@ -9,7 +9,8 @@ use Rattle.quorum.specs.Sets.{member, minus, remove}
 use Rattle.rules.specs.Rules.{first}
 use Rattle.basics.specs.Listing.{passing}
 use Rattle.votes.specs.Votes.{sumBelow, votesOf, total, reaches, smallest, smallestSets, trueVotes, tooMany}
-use Rattle.votes.specs.Votes.{votesRefusals, votesNumber, places, sideBytes, configurationOf, votesOutput}
+use Rattle.form.specs.Sides.{places, sideBytes, configBytes}
+use Rattle.votes.specs.Votes.{votesRefusals, votesNumber, configurationOf, votesOutput}
 
 abbrev blank : List ℕ
 blank = replicate 32 170
@@ -22,5 +23,5 @@ sets = refl
 
 majority : votesOutput (1 ∷ 1 ∷ 1 ∷ []) 2 2 blank ≡ (3 ∷ 0 ∷ 5 ∷ 0 ∷ 6 ∷ 0 ∷ replicate 10 0) ++ (3 ∷ 0 ∷ 5 ∷ 0 ∷ 6 ∷ 0 ∷ replicate 10 0)
 unfolding sumBelow votesOf member minus remove total all allBelow reaches smallest passing smallestSets trueVotes tooMany first votesRefusals votesNumber
-    bytesOf places sideBytes configurationOf votesOutput
+    bytesOf places sideBytes configBytes configurationOf votesOutput
 majority = refl

@@ -1,6 +1,5 @@
 pub mod Laws
-mod Listing
-pub mod Places
+pub mod Listing
 mod Sides
 pub mod Claims
 mod Examples

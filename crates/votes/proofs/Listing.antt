@@ -10,7 +10,7 @@ use lib.ListN.{length, getD}
 use borrow.Author.Tests.{ltb-true, ltb-false, lt-ltb, eqb-true, eqb-false}
 use Rattle.basics.specs.Listing.{Listing}
 use Rattle.basics.proofs.Tests.{fails, either}
-use Rattle.basics.proofs.Listing.{same-listing, listing}
+use Rattle.basics.proofs.Listing.{same-listing, listing, at-or-behind}
 use Rattle.votes.specs.Votes.{smallest, smallestSets, tooMany}
 use Rattle.votes.specs.Claims.{Smallest, MoreThanEight}
 use Rattle.votes.proofs.Laws.{in-range, smallest-exactly}
@@ -23,26 +23,6 @@ smallest-listing votes threshold =
       λ p. smallest-exactly votes threshold x (p .0) .0 (p .1),
       λ s. let l = in-range n x .1 (s .inRange) in (l, smallest-exactly votes threshold x l .1 s),
     )) (listing (smallest votes threshold) (2 ^ n))
-
--- rising numbers of the list have rising indices, so the one after k others is at k or behind
-module _ (P : ℕ → Type 0) (l : List ℕ) (listed : Listing P l) where
-  rises-weakly : (i j : ℕ) → i ≤ j → j < length l → getD l i 0 ≤ getD l j 0
-  rises-weakly i j m h =
-      either (eqb i j)
-      (λ e. rw (eqb-true i j e) (omega arith))
-      (λ e. let other : i ≡ j → ⊥ = eqb-false i j e in omega (arith, listed .rises i j (omega arith) h))
-
-  at-or-behind : (bound : ℕ) (x : ℕ → ℕ) → ((k : ℕ) → k < bound → P (x k)) → ((j k : ℕ) → j < k → k < bound → x j < x k)
-      → (k i : ℕ) → k < bound → i < length l → getD l i 0 ≡ x k → k ≤ i
-  at-or-behind bound x is rise zero i m h e = omega arith
-  at-or-behind bound x is rise (suc k) i m h e =
-      let before = listed .every (x k) (is k (omega arith)) in
-      let j = before .0 in
-      let ih = at-or-behind bound x is rise k j (omega arith) (before .1) (before .2) in
-      let less = rise k (suc k) (omega arith) m in
-      either (ltb j i)
-      (λ q. omega (arith, ltb-true j i q))
-      (λ q. absurd (omega (arith, before .2, rises-weakly i j (ltb-false j i q) (before .1))))
 
 pub more-than-eight : (votes : List ℕ) (threshold : ℕ) → (tooMany votes threshold ≡ true) ↔ MoreThanEight votes threshold
 unfolding tooMany

@@ -8,9 +8,10 @@ use Prim.Native.Nat.{ℕ, _+_, _≤_, _<_}
 use lib.ListN.{length, getD}
 use Rattle.basics.specs.Tests.{Some}
 use Rattle.basics.specs.Bytes.{AreBytes}
-use Rattle.quorum.specs.Sets.{member, used, remove, full}
+use Rattle.quorum.specs.Sets.{member, remove, full}
 use Rattle.quorum.specs.Configurations.{configSize, readSet, writeSet, valid, holdsRead, holdsWrite}
 use Rattle.quorum.specs.Promise.{_⊆_}
+use Rattle.form.specs.Sides.{Lists}
 use Rattle.layout.specs.Layout.{tableLength}
 use Rattle.layout.specs.View.{Table}
 use Rattle.rules.specs.Calls.{lay}
@@ -28,12 +29,6 @@ pub record Smallest (votes : List ℕ) (threshold set : ℕ) : Type 0 where
   pub inRange : (i : ℕ) → member set i ≡ true → i < length votes
   pub enough : Reaches votes threshold set
   pub least : (i : ℕ) → member set i ≡ true → Reaches votes threshold (remove set i) → ⊥
-
--- the used places of a side, which come first where it is valid, are exactly the smallest sets, each once, rising as numbers
-pub record ListsSmallest (votes : List ℕ) (threshold : ℕ) (side : ℕ → ℕ) : Type 0 where
-  pub every : (set : ℕ) → Smallest votes threshold set → Some 8 (λ k. side k ≡ set)
-  pub only : (k : ℕ) → k < 8 → used (side k) ≡ true → Smallest votes threshold (side k)
-  pub rises : (j k : ℕ) → j < k → k < 8 → used (side k) ≡ true → side j < side k
 
 -- there are more than eight smallest sets: nine that rise
 abbrev pub MoreThanEight : List ℕ → ℕ → Type 0
@@ -65,8 +60,9 @@ pub record Configured (votes : List ℕ) (read write : ℕ) (config : List ℕ) 
   -- "A station set must hold a listed set exactly when its votes reach that threshold."
   pub read-exactly : (set : ℕ) → (holdsRead config set ≡ true) ↔ Reaches votes read set
   pub write-exactly : (set : ℕ) → (holdsWrite config set ≡ true) ↔ Reaches votes write set
-  pub reads : ListsSmallest votes read (readSet config)
-  pub writes : ListsSmallest votes write (writeSet config)
+  -- each side lists the smallest sets
+  pub reads : Lists (Smallest votes read) (readSet config)
+  pub writes : Lists (Smallest votes write) (writeSet config)
   -- a lay of as many stations takes it
   pub lay-takes : (table : Table) (m value : ℕ) → 1 ≤ m → m ≤ 32 → length table ≡ tableLength (length votes) m
       → reply table (lay (length votes) m value config) .number ≡ 0

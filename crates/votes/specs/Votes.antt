@@ -2,15 +2,15 @@
 -- The stations are as many as there are votes. Any number is taken as a threshold: 16 bytes have a total of 4,080 at most, so one that needs more than
 -- 16 bits is above it.
 use mathlib.Core.Bool.{Bool, not, cond, _&&_, _||_}
-use mathlib.Core.List.{List, [], _∷_, _++_}
+use mathlib.Core.List.{List, [], _∷_}
 use Prim.Native.Nat.{ℕ, zero, suc, _+_, _^_}
 use lib.Dec.{ltb, leb, eqb}
 use lib.ListN.{length, getD}
 use Rattle.basics.specs.Tests.{all, allBelow}
 use Rattle.basics.specs.Listing.{passing}
-use Rattle.basics.specs.Bytes.{bytesOf}
 use Rattle.quorum.specs.Sets.{member, remove}
 use Rattle.quorum.specs.Configurations.{configSize}
+use Rattle.form.specs.Sides.{configBytes}
 use Rattle.rules.specs.Rules.{Chain, first}
 use Rattle.rules.specs.declared.Reply.{Reply}
 
@@ -74,18 +74,9 @@ abbrev pub votesReply : List ℕ → ℕ → ℕ → List ℕ → Reply
 votesReply votes read write out = record { number = votesNumber votes read write out; first = 0; second = 0; third = 0 }
 
 -- ---- the output
--- the first k places of a side, two bytes each
-unfoldable pub places : (ℕ → ℕ) → ℕ → List ℕ
-places side zero = []
-places side (suc k) = places side k ++ bytesOf 2 (side k)
-
--- the eight places of a side: the sets of a list, then unused places
-unfoldable pub sideBytes : List ℕ → List ℕ
-sideBytes sets = places (λ k. getD sets k 0) 8
-
 -- "the valid configuration, written into a lent 32 bytes": of a call that is done, so that no side has more sets than places
 unfoldable pub configurationOf : List ℕ → ℕ → ℕ → List ℕ
-configurationOf votes read write = sideBytes (smallestSets votes read) ++ sideBytes (smallestSets votes write)
+configurationOf votes read write = configBytes (smallestSets votes read) (smallestSets votes write)
 
 -- "A refusal leaves .. every other lent buffer untouched" (document 01).
 unfoldable pub votesOutput : List ℕ → ℕ → ℕ → List ℕ → List ℕ

@@ -1,7 +1,6 @@
 use mathlib.Core.Path.{refl, _∙_}
-use native.Mathlib.Omega.{arith}
-use lib.Seq.{take-all}
-use Rattle.quorum.specs.Configurations.{configSize}
+use Rattle.quorum.proofs.Promise.{promise}
+use Rattle.form.proofs.Laws.{form-any}
 use Rattle.layout.proofs.Soundness.{sound-head}
 use Rattle.rules.specs.Calls.{openChange}
 use Rattle.rules.specs.Figures.{figuresOf}
@@ -34,12 +33,12 @@ cast-set-round c =
     let s = asked .before .before .before .before .pre in
     let a = shown _ s (openChange _ _) refl (asked .open-change-number .ensures) (c .before .if1 .left) in record { fits = item-byte _ s (a .1 .0) }
 
-config-bytes-at-requires : tie.Need-config-bytes-at-requires
+form-of-requires : tie.Need-form-of-requires
 unfolding needed
-config-bytes-at-requires c κs =
+form-of-requires c κs =
     let asked = c .before .before in
     let s = asked .before .before .before .before .pre in
-    let l = shown _ s (openChange _ _) refl (asked .open-change-number .ensures) (c .before .if1 .left) .1 .1 .0 .long in omega arith
+    shown _ s (openChange _ _) refl (asked .open-change-number .ensures) (c .before .if1 .left) .1 .1 .0 .long
 
 set-round-requires : tie.Need-set-round-requires
 set-round-requires c κs = sound-head _ (c .before .before .before .before .before .before .before .pre)
@@ -54,14 +53,14 @@ returns-2 : tie.Need-returns-2
 unfolding done figuresOf needed
 returns-2 c =
     let written = c .before .before .before in
-    let copied = written .before in
-    let allowed = copied .before .before in
+    let formed = written .before in
+    let allowed = formed .before .before in
     let asked = allowed .before in
     let start = asked .before .before .before .before in
     let e = asked .open-change-number .ensures in
-    let l = shown _ (start .pre) (openChange _ _) refl e (allowed .if1 .left) .1 .1 .0 .long in
+    let valid = promise .valid-exactly _ _ .1 (shown _ (start .pre) (openChange _ _) refl e (allowed .if1 .left) .1 .1 .0) in
     plain-finished _ (start .pre) (openChange _ _) refl e refl (allowed .if1 .left) (c .plain2 .ensures)
-    (written .set-round .ensures ∙ rw (copied .config-bytes-at .ensures, take-all configSize (start .args .target .now) (omega arith)))
+    (written .set-round .ensures ∙ rw (formed .form-of .ensures, form-any _ _ valid))
 
 pub open-change-on-spec : {M : Type 1} → statement M
 open-change-on-spec =
@@ -72,7 +71,7 @@ open-change-on-spec =
     same-length
     returns
     cast-set-round
-    config-bytes-at-requires
+    form-of-requires
     set-round-requires
     plain-requires-2
     same-length-2

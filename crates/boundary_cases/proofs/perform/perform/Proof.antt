@@ -10,6 +10,15 @@ code-of-requires c κs = search needs
 returns : tie.Need-returns
 returns c = search needs
 
+slice-reshare-prefix-compare : tie.Need-slice-reshare-prefix-compare
+slice-reshare-prefix-compare c = search needs
+
+slice-aggregate-compare : tie.Need-slice-aggregate-compare
+slice-aggregate-compare c = simp length-take (omega arith)
+
+compare-requires : tie.Need-compare-requires
+compare-requires c κs = search needs
+
 config-requires : tie.Need-config-requires
 config-requires c κs = search needs
 
@@ -43,6 +52,9 @@ lent-after-requires c κs = search needs
 same-length : tie.Need-same-length
 same-length c = search needs
 
+same-length-2 : tie.Need-same-length-2
+same-length-2 c = search needs
+
 returns-2 : tie.Need-returns-2
 returns-2 c = search needs
 
@@ -58,6 +70,9 @@ perform-spec =
     (tie.spec
     code-of-requires
     returns
+    slice-reshare-prefix-compare
+    slice-aggregate-compare
+    compare-requires
     config-requires
     slice-relend-prefix-act
     slice-aggregate-act
@@ -69,6 +84,7 @@ perform-spec =
     act-requires
     lent-after-requires
     same-length
+    same-length-2
     returns-2
     lent-after-requires-2
     returns-3)

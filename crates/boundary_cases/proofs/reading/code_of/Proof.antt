@@ -4,7 +4,7 @@ use Rattle.boundary_cases.proofs.reading.code_of.Statement.{statement}
 use Rattle.boundary_cases.proofs.reading.code_of.Tie as tie
 
 abbrev Inv-loop : tie.InvT-loop
-Inv-loop word code₀ code = code ≤ 20
+Inv-loop word code₀ code = code ≤ 24
 
 abbrev μ-loop : tie.MeasureT-loop
 μ-loop word code₀ code = code

@@ -6,10 +6,11 @@ use Rattle.boundary_cases.proofs.script.run.Statement.{statement}
 use Rattle.boundary_cases.proofs.script.run.Tie as tie
 
 abbrev Inv-loop : tie.InvT-loop
-Inv-loop script space₀ lent₀ call₀ calls₀ shown₀ i₀ space lent call calls shown i = (length space ≡ length space₀) × (i ≤ length script)
+Inv-loop script space₀ room₀ lent₀ call₀ calls₀ shown₀ i₀ space room lent call calls shown i =
+    (length space ≡ length space₀) × (length room ≡ length room₀) × (i ≤ length script)
 
 abbrev μ-loop : tie.MeasureT-loop
-μ-loop script space₀ lent₀ call₀ calls₀ shown₀ i₀ space lent call calls shown i = length script - i
+μ-loop script space₀ room₀ lent₀ call₀ calls₀ shown₀ i₀ space room lent call calls shown i = length script - i
 
 loop-holds : tie.Need-loop-holds Inv-loop μ-loop
 loop-holds c = search needs
@@ -41,6 +42,9 @@ loop-again c = search needs
 same-length : tie.Need-same-length Inv-loop μ-loop
 same-length c = search needs
 
+same-length-2 : tie.Need-same-length-2 Inv-loop μ-loop
+same-length-2 c = search needs
+
 returns : tie.Need-returns Inv-loop μ-loop
 returns c = search needs
 
@@ -60,4 +64,5 @@ run-spec =
     loop-less
     loop-again
     same-length
+    same-length-2
     returns)

@@ -1,0 +1,7 @@
+mod Respelled
+mod InForm
+mod Before
+mod Spellings
+mod Votes
+mod StandardForm
+mod Examples

@@ -1,0 +1,215 @@
+-- Spellings of a configuration in calls and in tables.
+use mathlib.Core.Path.{_≡_, refl, sym, ap, _∙_}
+use mathlib.Core.Bool.{Bool, true, not, cond}
+use mathlib.Core.List.{List, [], _∷_}
+use Prim.Native.Nat.{ℕ, zero, suc}
+use native.Mathlib.Omega.{arith}
+use lib.Dec.{eqb}
+use borrow.Author.Tests.{eqb-true, eq-eqb, ne-eqb}
+use Rattle.basics.specs.Bytes.{AreBytes}
+use Rattle.basics.proofs.Tests.{clash, either}
+use Rattle.quorum.specs.Configurations.{valid, firstRead, placeFigure, isPlace}
+use Rattle.quorum.specs.Promise.{SamePasses}
+use Rattle.quorum.specs.declared.Place.{Place}
+use Rattle.quorum.proofs.Promise.{promise}
+use Rattle.form.specs.Form.{standardForm}
+use Rattle.form.proofs.Laws.{same-passes-form, spells-itself}
+use Rattle.layout.specs.Layout.{tableLength}
+use Rattle.layout.specs.Fields.{kindByte, change}
+use Rattle.layout.specs.Soundness.{sound}
+use Rattle.layout.specs.Updates.{laid, setRound}
+use Rattle.layout.specs.View.{Table, State, view, ContentsBy}
+use Rattle.layout.proofs.Soundness.{is-sound, sound-facts}
+use Rattle.layout.proofs.TableFacts.{table-facts}
+use Rattle.rules.specs.Calls.{Call, lay, openChange, poll, diagnose}
+use Rattle.rules.specs.Rules.{first, tests, refusals, numberOf, noSize, noItem, isIdle}
+use Rattle.rules.specs.Figures.{Figures, figuresOf, noFigures, oneFigure}
+use Rattle.rules.specs.After.{done}
+use Rattle.rules.specs.Needs.{needs}
+use Rattle.rules.specs.Reply.{answer, replyOf, reply, after}
+use Rattle.rules.specs.Lists.{replies, afterAll, AllPassable}
+use Rattle.rules.proofs.Laws.{done-allowed, next-view, bytes-kept}
+use Rattle.rules.proofs.Kept.{after-sound, stays-sound}
+use Rattle.rules.proofs.Alike.{AlikeBy, Agree, reply-alike, all-alike}
+use Rattle.spelling.specs.Spellings.{OneForm, SameCall, the-same, of-lay, of-change, SameCalls, SameHouse, respelled, anyPlace, butForPlace}
+use Rattle.spelling.specs.Spellings.{SameReplies, Spellings}
+use Rattle.spelling.proofs.Before.{lay-before, change-before}
+use Rattle.spelling.proofs.InForm.{respelled-in-form, unchanged, all-in-form, laid-in-form, in-form-like}
+use Rattle.spelling.proofs.Respelled.{respelled-bytes, respelled-length, respelled-contents, respelled-sound, respelled-passes}
+
+-- ---- spellings in calls
+-- two calls that get the same reply and leave the same bytes
+abbrev SameEffect : Table → Call → Call → Type 0
+SameEffect t c d = (reply t c ≡ reply t d) × (after t c ≡ after t d)
+
+-- they do if they get the same number, have the same figures, and where they are done leave the same bytes
+same-effect : (t : Table) (c d : Call) → numberOf (view t) c ≡ numberOf (view t) d → figuresOf (view t) c ≡ figuresOf (view t) d
+    → (reply t c .number ≡ 0 → done t (view t) c ≡ done t (view t) d) → SameEffect t c d
+unfolding replyOf after
+same-effect t c d e f g = (
+  λ j. answer (e j) (f j),
+  either (eqb (numberOf (view t) c) 0)
+      (λ z. rw (← e, z) (g (eqb-true (numberOf (view t) c) 0 z)))
+      (λ z. rw (← e, z)),
+)
+
+same-call : (t : Table) (c d : Call) → SameCall (view t .n) c d → SameEffect t c d
+unfolding numberOf refusals tests figuresOf done needs
+same-call t c d the-same = (refl, refl)
+same-call t _ _ (of-lay {k = n} {m = m} {value = value} {config = config} {other = other} one) =
+    same-effect t (lay n m value config) (lay n m value other)
+    (λ j. first ((noSize n m, 2) ∷ (not (view t .fits n m), 1) ∷ (not (one .judged j), 3) ∷ [])) refl
+    (λ e. ap (laid n m value) (one .form (promise .valid-exactly n config .1 (done-allowed t (lay n m value config) e .1 .1 .0))))
+same-call t _ _ (of-change {i = i} {target = target} {other = other} one) =
+    same-effect t (openChange i target) (openChange i other)
+    (λ j. first ((not (view t .isSound), 1) ∷ (noItem (view t) i, 2) ∷ (not (one .judged j), 3) ∷ (not (isIdle (view t)), 4) ∷ [])) refl
+    (λ e. ap (setRound t (kindByte change) i 0)
+    (one .form (promise .valid-exactly (view t .n) target .1 (done-allowed t (openChange i target) e .1 .1 .0))))
+
+one-form : (t : Table) (calls others : List Call) → SameCalls t calls others → (replies t calls ≡ replies t others) × (afterAll t calls ≡ afterAll t others)
+unfolding replies afterAll
+one-form t [] [] r = (refl, refl)
+one-form t [] (d ∷ others) r = absurd r
+one-form t (c ∷ calls) [] r = absurd r
+one-form t (c ∷ calls) (d ∷ others) r =
+    let same = same-call t c d (r .0) in
+    let rest = one-form (after t c) calls others (r .1) in
+    (λ j. same .0 j ∷ (rest .0 ∙ ap (λ u. replies u others) (same .1)) j, rest .1 ∙ ap (λ u. afterAll u others) (same .1))
+
+-- ---- spellings in tables
+any-place : (p : Place) → anyPlace (placeFigure p) ≡ cond (isPlace p) 1 0
+any-place p =
+    either (isPlace p)
+    (λ e. rw (e, ne-eqb (placeFigure p) 0 (λ z. clash e (promise .figure-none p .0 z))))
+    (λ e. rw (e, eq-eqb (placeFigure p) 0 (promise .figure-none p .1 e)))
+
+same-place : (c d : List ℕ) → SamePasses c d → (set : ℕ) → anyPlace (placeFigure (firstRead c set)) ≡ anyPlace (placeFigure (firstRead d set))
+same-place c d e set = any-place (firstRead c set) ∙ ap (λ b. cond b 1 0) (e .reads set) ∙ sym (any-place (firstRead d set))
+
+spelled-agree : Agree SamePasses butForPlace
+spelled-agree =
+    record {
+      itself = λ c. spells-itself refl;
+      passes = λ c d e. e;
+      polled = λ c d e set s j. answer 0 (oneFigure (same-place c d e set j));
+      diagnosed = λ c d e set number station j. answer 0 (record { first = number; second = station; third = same-place c d e set j });
+    }
+
+-- tables of one house look alike
+alike : (t u : Table) → SameHouse t u → AlikeBy SamePasses (view t) (view u)
+unfolding view
+alike t u h =
+    let same = h .contents in
+    let st = h .areSound .0 in
+    let su = h .areSound .1 in
+    record {
+      isSound = st ∙ sym su;
+      fits = λ n m. ap (λ l. eqb l (tableLength n m)) (sound-facts t st .size ∙ rw (same .n, same .m) (sym (sound-facts u su .size)));
+      contents = same;
+    }
+
+-- bytes and soundness along a list
+all-bytes : (t : Table) (calls : List Call) → AreBytes t → AllPassable calls → AreBytes (afterAll t calls)
+unfolding afterAll
+all-bytes t [] b p = b
+all-bytes t (c ∷ calls) b p = all-bytes (after t c) calls (bytes-kept t c b (p .0)) (p .1)
+
+all-sound : (t : Table) (calls : List Call) → AreBytes t → AllPassable calls → sound t ≡ true → sound (afterAll t calls) ≡ true
+unfolding afterAll
+all-sound t [] b p s = s
+all-sound t (c ∷ calls) b p s = all-sound (after t c) calls (bytes-kept t c b (p .0)) (p .1) (stays-sound t c b (p .0) s)
+
+module _ (t u : Table) (h : SameHouse t u) where
+  stays-same : (calls : List Call) → AllPassable calls → SameHouse (afterAll t calls) (afterAll u calls)
+  stays-same calls p =
+      let b = h .bytes in
+      let s = h .areSound in
+      record {
+        bytes = (all-bytes t calls (b .0) p, all-bytes u calls (b .1) p);
+        areSound = (all-sound t calls (b .0) p (s .0), all-sound u calls (b .1) p (s .1));
+        contents = all-alike spelled-agree t u calls (b .0) (b .1) p (alike t u h) .contents;
+      }
+
+  same-replies : SameReplies t u
+  same-replies calls p c =
+      reply-alike spelled-agree _ _ (alike (afterAll t calls) (afterAll u calls) (stays-same calls p)) (λ s. is-sound (afterAll t calls) s .item) c
+
+-- ---- tables respelled
+one-respelling : (t u : Table) → SameHouse t u → respelled t ≡ respelled u
+one-respelling t u h =
+    let st = h .areSound .0 in
+    let su = h .areSound .1 in
+    let same = h .contents in
+    let a = respelled-contents t st in
+    let b = respelled-contents u su in
+    let its = same .round in
+    table-facts .same-bytes (respelled t) (respelled u) (respelled-bytes t (h .bytes .0)) (respelled-bytes u (h .bytes .1))
+    (respelled-sound t st) (respelled-sound u su) (record {
+      n = sym (a .n) ∙ same .n ∙ b .n;
+      m = sym (a .m) ∙ same .m ∙ b .m;
+      off = sym (a .off) ∙ same .off ∙ b .off;
+      round = λ j. record {
+        kind = (sym (a .round .kind) ∙ its .kind ∙ b .round .kind) j;
+        item = (sym (a .round .item) ∙ its .item ∙ b .round .item) j;
+        polled = (sym (a .round .polled) ∙ its .polled ∙ b .round .polled) j;
+        dataPuts = (sym (a .round .dataPuts) ∙ its .dataPuts ∙ b .round .dataPuts) j;
+        configPuts = (sym (a .round .configPuts) ∙ its .configPuts ∙ b .round .configPuts) j;
+        value = (sym (a .round .value) ∙ its .value ∙ b .round .value) j;
+        target = (a .round .target ∙ one (same .n) (its .target) ∙ sym (b .round .target)) j;
+      };
+      copies = λ i k p q. let p′ = rw (← b .m) at p in let q′ = rw (← b .n) at q in
+          let x = a .copies i k (rw (← a .m, same .m) p′) (rw (← a .n, same .n) q′) in
+          let c = same .copies i k p′ q′ in
+          let y = b .copies i k p q in
+          λ j. record {
+            version = (sym (x .version) ∙ c .version ∙ y .version) j;
+            value = (sym (x .value) ∙ c .value ∙ y .value) j;
+            generation = (sym (x .generation) ∙ c .generation ∙ y .generation) j;
+            config = (x .config ∙ one (same .n) (c .config) ∙ sym (y .config)) j;
+          };
+    })
+  where
+    one : {n k : ℕ} {c d : List ℕ} → n ≡ k → SamePasses c d → standardForm n c ≡ standardForm k d
+    one {n = n} {c = c} {d = d} e p = same-passes-form n c d p ∙ ap (λ x. standardForm x d) e
+
+house : (t : Table) → AreBytes t → sound t ≡ true → SameHouse t (respelled t)
+house t b s = record { bytes = (b, respelled-bytes t b); areSound = (s, respelled-sound t s); contents = respelled-passes t s }
+
+other-way : (t u : Table) → SameReplies t u → SameReplies u t
+other-way t u h calls p c = sym (h calls p c)
+
+respelled-after : (t : Table) (calls : List Call) → AreBytes t → sound t ≡ true → AllPassable calls → afterAll (respelled t) calls ≡ respelled (afterAll t calls)
+respelled-after t calls b s p =
+    let h = stays-same t (respelled t) (house t b s) calls p in
+    sym (unchanged (afterAll (respelled t) calls) (h .bytes .1) (h .areSound .1)
+    (all-in-form (respelled t) calls (respelled-bytes t b) p (respelled-in-form t s)))
+    ∙ sym (one-respelling (afterAll t calls) (afterAll (respelled t) calls) h)
+
+always-in-form : (t : Table) (n m value : ℕ) (config : List ℕ) (calls : List Call) → AreBytes t → AllPassable (lay n m value config ∷ calls)
+    → reply t (lay n m value config) .number ≡ 0
+    → respelled (afterAll t (lay n m value config ∷ calls)) ≡ afterAll t (lay n m value config ∷ calls)
+unfolding afterAll
+always-in-form t n m value config calls b p e =
+    let c = lay n m value config in
+    let u = after t c in
+    let bu = bytes-kept t c b (p .0) in
+    unchanged (afterAll u calls) (all-bytes u calls bu (p .1)) (all-sound u calls bu (p .1) (after-sound t c b (p .0) e))
+    (all-in-form u calls bu (p .1) (in-form-like _ _ (next-view t c e b (p .0)) (laid-in-form (view t) n m value config (done-allowed t c e))))
+
+pub spellings : Spellings
+spellings =
+    record {
+      one-form = one-form;
+      always-in-form = always-in-form;
+      same-replies = same-replies;
+      stays-same = λ t u calls h p. stays-same t u h calls p;
+      one-respelling = one-respelling;
+      respelled-contents = respelled-contents;
+      respelled-sound = respelled-sound;
+      respelled-length = respelled-length;
+      respelled-bytes = respelled-bytes;
+      no-harm = λ t b s. other-way t (respelled t) (same-replies t (respelled t) (house t b s));
+      respelled-after = respelled-after;
+      lay-before = lay-before;
+      change-before = change-before;
+    }
