@@ -1,42 +1,12 @@
-/*
- * Document 01 by hand for speed, with every check at every call.
- *
- * Bytes are read and written as 64-bit words, so this file is for hosts that
- * keep the least significant byte first. A word of a configuration has four
- * station sets in lanes of 16 bits, a vector register all eight of a side, and
- * tests work on all of them at once. (The vectors are gcc's and clang's own,
- * with no instruction written out.)
- */
+/* Document 01 by hand for speed, with every check at every call. Station sets
+ * and configurations stand in optimised_sets.h. */
 #include "optimised.h"
-
-#include <stdbool.h>
-#include <string.h>
-
-#if __BYTE_ORDER__ != __ORDER_LITTLE_ENDIAN__
-#error "this host does not keep the least significant byte first"
-#endif
+#include "optimised_sets.h"
 
 enum { HEAD = 56, COPY = 56, BLOCK = 8 };
 
 /* Offsets in a copy. */
 enum { VERSION = 0, VALUE = 8, GENERATION = 16, CONFIGURATION = 24 };
-
-#define ONES UINT64_C(0x0001000100010001) /* the lowest bit of each lane */
-#define TOPS UINT64_C(0x8000800080008000) /* the highest bit of each lane */
-
-/* One side of a configuration: its eight sets. */
-typedef struct {
-    uint64_t low;
-    uint64_t high;
-} side;
-
-typedef struct {
-    side read;
-    side write;
-} configuration;
-
-/* The same eight sets as lanes of one vector register. */
-typedef uint16_t lanes __attribute__((vector_size(16)));
 
 /* The head of a table; its sets as numbers of 16 bits. */
 typedef struct {
@@ -66,13 +36,6 @@ static inline ospreyscreen_reply refused(uint64_t number)
 
 /* ---- Bytes ---- */
 
-static inline uint64_t get_word(const uint8_t *at)
-{
-    uint64_t word;
-    memcpy(&word, at, sizeof word);
-    return word;
-}
-
 static inline void set_word(uint8_t *at, uint64_t word)
 {
     memcpy(at, &word, sizeof word);
@@ -82,103 +45,6 @@ static inline void set_pair(uint8_t *at, uint64_t set)
 {
     uint16_t pair = (uint16_t)set;
     memcpy(at, &pair, sizeof pair);
-}
-
-static inline configuration get_configuration(const uint8_t *at)
-{
-    return (configuration){{get_word(at), get_word(at + 8)}, {get_word(at + 16), get_word(at + 24)}};
-}
-
-/* ---- Station sets and configurations ---- */
-
-/* The highest bit of each lane that is not zero. */
-static inline uint64_t used(uint64_t sets)
-{
-    return (((sets & ~TOPS) + ~TOPS) | sets) & TOPS;
-}
-
-/* Both sides at once: the used read places as the highest bits of their
- * lanes, the used write places as the bits below. Not zero if an unused place
- * stands in front of a used one, or if a first place is unused. */
-static inline uint64_t gaps(side read_used, side write_used)
-{
-    side both = {read_used.low | write_used.low >> 1, read_used.high | write_used.high >> 1};
-    uint64_t next = both.low >> 16 | both.high << 48;
-    return (~both.low & (next | 0xC000)) | (~both.high & both.high >> 16);
-}
-
-/* The eight sets of a side, from its first byte on. */
-static inline lanes get_side(const uint8_t *at)
-{
-    lanes s;
-    memcpy(&s, at, sizeof s);
-    return s;
-}
-
-/* Not zero if a lane is not zero. */
-static inline uint64_t any(lanes s)
-{
-    uint64_t halves[2];
-    memcpy(halves, &s, sizeof halves);
-    return halves[0] | halves[1];
-}
-
-/* All stations in each unused place, so that it shares one with every set. */
-static inline lanes fill(lanes s)
-{
-    return s | (lanes)(s == 0);
-}
-
-/* Range and gaps on words of four sets; then eight pairs at a time, one AND
- * and one comparison each, all 64 without a branch. */
-static inline bool valid(configuration c, uint64_t n)
-{
-    uint64_t outside = (UINT64_C(0xFFFF) << n & 0xFFFF) * ONES;
-    uint64_t named = c.read.low | c.read.high | c.write.low | c.write.high;
-    side read_used = {used(c.read.low), used(c.read.high)};
-    side write_used = {used(c.write.low), used(c.write.high)};
-    if ((gaps(read_used, write_used) | (named & outside)) != 0) {
-        return false;
-    }
-    lanes read, write, apart = {0};
-    memcpy(&read, &c.read, sizeof read);
-    memcpy(&write, &c.write, sizeof write);
-    read = fill(read);
-    write = fill(write);
-    for (int i = 0; i < 8; i++) {
-        apart |= (lanes)((write & read[i]) == 0);
-    }
-    return any(apart) == 0;
-}
-
-/* The highest bits of the lanes whose sets are used and held by the stations. */
-static inline side held(uint64_t stations, side s)
-{
-    uint64_t lacking = ~(stations * ONES);
-    return (side){used(s.low) & ~used(s.low & lacking), used(s.high) & ~used(s.high & lacking)};
-}
-
-/* Whether the stations hold a used set of the side. */
-static inline bool holds(uint64_t stations, side s)
-{
-    side h = held(stations, s);
-    return (h.low | h.high) != 0;
-}
-
-/* One plus the first place of the side that the stations hold, or 0. */
-static inline uint64_t first_held(uint64_t stations, side s)
-{
-    side h = held(stations, s);
-    if (h.low != 0) {
-        return 1 + (uint64_t)__builtin_ctzll(h.low) / 16;
-    }
-    return h.high == 0 ? 0 : 5 + (uint64_t)__builtin_ctzll(h.high) / 16;
-}
-
-static inline uint64_t difference(configuration a, configuration b)
-{
-    return (a.read.low ^ b.read.low) | (a.read.high ^ b.read.high) | (a.write.low ^ b.write.low) |
-           (a.write.high ^ b.write.high);
 }
 
 /* ---- Soundness ---- */
@@ -363,7 +229,7 @@ ospreyscreen_reply opt_lay(uint8_t *table, size_t len, uint64_t n, uint64_t m, u
     set_word(copies + VERSION, 0);
     set_word(copies + VALUE, value);
     set_word(copies + GENERATION, 0);
-    memcpy(copies + CONFIGURATION, config, OSPREYSCREEN_CONFIGURATION_LENGTH);
+    set_sides(copies + CONFIGURATION, standard_form(config));
     size_t total = len - HEAD;
     size_t filled_to = COPY;
     for (; filled_to <= total / 2; filled_to *= 2) {
@@ -422,7 +288,7 @@ ospreyscreen_reply opt_open_change(uint8_t *table, size_t len, uint64_t item,
     }
     table[4] = OSPREYSCREEN_ROUND_CHANGE;
     table[5] = (uint8_t)item;
-    memcpy(table + 24, target, OSPREYSCREEN_CONFIGURATION_LENGTH);
+    set_sides(table + 24, standard_form(target));
     return done(0, 0, 0);
 }
 
@@ -721,4 +587,17 @@ ospreyscreen_reply opt_plan(const uint8_t *table, size_t len, uint64_t item)
         return refused(OSPREYSCREEN_OUT_OF_HEARING);
     }
     return plan(table + item_start(&h, item), on);
+}
+
+ospreyscreen_reply opt_standard_form(uint64_t n, const uint8_t *config, size_t config_len,
+                                     uint8_t *out, size_t out_len)
+{
+    if (n - 1 >= OSPREYSCREEN_STATIONS_MAX || out_len != OSPREYSCREEN_CONFIGURATION_LENGTH) {
+        return refused(OSPREYSCREEN_NO_SUCH_THING);
+    }
+    if (config_len != OSPREYSCREEN_CONFIGURATION_LENGTH || !valid(get_configuration(config), n)) {
+        return refused(OSPREYSCREEN_FALSE_CONFIGURATION);
+    }
+    set_sides(out, standard_form(config));
+    return done(0, 0, 0);
 }

@@ -26,5 +26,10 @@ ospreyscreen_reply opt_votes(const uint8_t *votes, size_t votes_len, uint64_t re
 /* The same by a search, one number at a time, as the library does it. */
 ospreyscreen_reply opt_votes_searched(const uint8_t *votes, size_t votes_len, uint64_t read,
                                       uint64_t write, uint8_t *out, size_t out_len);
+ospreyscreen_reply opt_standard_form(uint64_t n, const uint8_t *config, size_t config_len,
+                                     uint8_t *out, size_t out_len);
+/* The same one set at a time, each to its place among those found. */
+ospreyscreen_reply opt_standard_form_listed(uint64_t n, const uint8_t *config, size_t config_len,
+                                            uint8_t *out, size_t out_len);
 
 #endif

@@ -10,8 +10,9 @@
  *
  * Rules for the caller:
  * - The table and the configuration that a call gets are lent for that call,
- *   and so are the votes and the output of ospreyscreen_votes. They must not
- *   overlap. A null pointer goes with length 0 only.
+ *   and so are the votes of ospreyscreen_votes, and the output of it and of
+ *   ospreyscreen_standard_form. They must not overlap. A null pointer goes with
+ *   length 0 only.
  * - len is the length of the table's buffer in bytes, and config_len and
  *   target_len are that of the configuration's; votes_len and out_len are
  *   those of the votes and of the output.
@@ -39,7 +40,7 @@ extern "C" {
 
 /* The version of this header and of the library that belongs to it. */
 #define OSPREYSCREEN_VERSION_MAJOR 0
-#define OSPREYSCREEN_VERSION_MINOR 6
+#define OSPREYSCREEN_VERSION_MINOR 7
 #define OSPREYSCREEN_VERSION_PATCH 0
 #define OSPREYSCREEN_VERSION_STRING                                                                \
     OSPREYSCREEN_DOTTED_(OSPREYSCREEN_VERSION_MAJOR, OSPREYSCREEN_VERSION_MINOR,                   \
@@ -69,7 +70,7 @@ enum ospreyscreen_number {
     OSPREYSCREEN_DONE = 0,
     OSPREYSCREEN_UNSOUND = 1,             /* the table is not sound; at lay, its length does not fit */
     OSPREYSCREEN_NO_SUCH_THING = 2,       /* station, item, put sort, link state, n or m out of range;
-                                             at votes, the length of the output */
+                                             at votes and standard form, the output's length */
     OSPREYSCREEN_FALSE_CONFIGURATION = 3, /* the configuration is not valid */
     OSPREYSCREEN_BUSY = 4,                /* an opening while a round is open */
     OSPREYSCREEN_IDLE = 5,                /* no round is open */
@@ -139,7 +140,8 @@ typedef struct {
 /*
  * Lays a table: n stations, 1 to 16, all off the bus; m items, 1 to 32, all
  * at the starting value with version 0, generation 0 and the configuration
- * given; no round. Looks at no old byte of the table and writes every byte.
+ * given, in its standard form; no round. Looks at no old byte of the table and
+ * writes every byte.
  * A station stays off until it is linked with state 1: until then a poll or a
  * put of it in a round gets 6. Before the first link reach is 0 for every
  * item, and plan gets 15. Link each station once it is wired and answers.
@@ -147,7 +149,10 @@ typedef struct {
  * bytes each, least significant byte first, bit i for station i. Unused
  * places are zero and come last on each side. It is valid if each side has a
  * used place, no set names a station n or above, and every read set shares a
- * station with every write set. Any other length is not valid.
+ * station with every write set. Any other length is not valid. That is asked
+ * of the bytes given. What is stored is their standard form, which is that of
+ * ospreyscreen_standard_form: so two tables that are laid alike but for the
+ * spelling of the configuration are equal, byte for byte.
  * Refusals: 2 n or m, 1 len is not OSPREYSCREEN_TABLE_LENGTH(n, m),
  * 3 the configuration.
  */
@@ -170,8 +175,9 @@ ospreyscreen_reply ospreyscreen_open_write(uint8_t *table, size_t len, uint64_t 
 
 /*
  * Opens a round that changes the item's configuration to the target, which is
- * 32 bytes as at lay. The target waits in the table's head until the commit;
- * other items keep their configurations.
+ * 32 bytes as at lay. The target waits in the table's head, in its standard
+ * form, until the commit, which stores it as it stands there; other items keep
+ * their configurations.
  * Refusals: 1 table, 2 item, 3 the target, 4 a round is open.
  */
 ospreyscreen_reply ospreyscreen_open_change(uint8_t *table, size_t len, uint64_t item,
@@ -185,6 +191,8 @@ ospreyscreen_reply ospreyscreen_open_change(uint8_t *table, size_t len, uint64_t
  * 7 is that of a read set in the configuration found, which is the one of the
  * highest generation among the polled copies, the lowest station's on equal
  * generations; a used place is held if all stations of its set are polled.
+ * Places are those of the configuration as it is stored: of its standard form,
+ * unless a library before 0.7 has stored it.
  * The round is heard if a place is held, so if this figure is not 0.
  * Refusals: 1 table, 2 station, 5 no round, 6 the station is off,
  * 7 a put set is not empty.
@@ -311,6 +319,24 @@ ospreyscreen_reply ospreyscreen_plan(const uint8_t *table, size_t len, uint64_t 
  */
 ospreyscreen_reply ospreyscreen_votes(const uint8_t *votes, size_t votes_len, uint64_t read,
                                       uint64_t write, uint8_t *out, size_t out_len);
+
+/*
+ * Takes a configuration of n stations to its standard form, its one spelling:
+ * on each side a set that contains another of that side is dropped, of equal
+ * sets one is kept, and those that are left rise as numbers; unused places are
+ * zero and come last. A station set passes for reading if it holds a read set,
+ * and for writing if it holds a write set. Two configurations have the same
+ * standard form exactly if the same station sets pass for reading and the same
+ * for writing: so two sheets for one house compare byte for byte. The standard
+ * form is valid for n and is its own standard form, and so is what
+ * ospreyscreen_votes writes. Lay and open_change store it. Writes all 32 bytes
+ * of the output if done, and none if refused. No figures.
+ * Refusals: 2 n is not 1 to 16, or out_len is not
+ * OSPREYSCREEN_CONFIGURATION_LENGTH, 3 the configuration is not valid for n, as
+ * at lay; any other length is not valid.
+ */
+ospreyscreen_reply ospreyscreen_standard_form(uint64_t n, const uint8_t *config, size_t config_len,
+                                              uint8_t *out, size_t out_len);
 
 #ifdef __cplusplus
 }

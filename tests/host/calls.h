@@ -167,6 +167,7 @@ typedef struct {
     ospreyscreen_reply (*reach)(const uint8_t *, size_t, uint64_t);
     ospreyscreen_reply (*diagnose)(const uint8_t *, size_t);
     ospreyscreen_reply (*plan)(const uint8_t *, size_t, uint64_t);
+    ospreyscreen_reply (*standard_form)(uint64_t, const uint8_t *, size_t, uint8_t *, size_t);
 } implementation;
 
 /* An implementation's table, from the prefix of its functions. */
@@ -174,7 +175,7 @@ typedef struct {
     {                                                                                          \
         name, prefix##lay, prefix##open_read, prefix##open_write, prefix##open_change,         \
             prefix##poll, prefix##put, prefix##commit, prefix##abandon, prefix##link,          \
-            prefix##reach, prefix##diagnose, prefix##plan                                      \
+            prefix##reach, prefix##diagnose, prefix##plan, prefix##standard_form               \
     }
 
 typedef struct {

@@ -23,6 +23,8 @@ ospreyscreen_reply ref_link(uint8_t *table, size_t len, uint64_t station, uint64
 ospreyscreen_reply ref_reach(const uint8_t *table, size_t len, uint64_t item);
 ospreyscreen_reply ref_diagnose(const uint8_t *table, size_t len);
 ospreyscreen_reply ref_plan(const uint8_t *table, size_t len, uint64_t item);
+ospreyscreen_reply ref_standard_form(uint64_t n, const uint8_t *config, size_t config_len,
+                                     uint8_t *out, size_t out_len);
 
 /* What makes a configuration false: document 01's clauses, by side. */
 enum {
@@ -35,6 +37,10 @@ enum {
     FALSE_DISJOINT,
     FALSE_CLAUSES
 };
+
+/* The clauses that make 32 bytes a false configuration of n stations, one bit
+ * each. */
+uint64_t ref_false(const uint8_t *config, uint64_t n);
 
 /* What makes a table unsound: document 01's clauses, in its order. */
 typedef enum {

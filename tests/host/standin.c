@@ -63,3 +63,9 @@ ospreyscreen_reply ospreyscreen_plan(const uint8_t *table, size_t len, uint64_t 
 {
     return opt_plan(table, len, item);
 }
+
+ospreyscreen_reply ospreyscreen_standard_form(uint64_t n, const uint8_t *config, size_t config_len,
+                                              uint8_t *out, size_t out_len)
+{
+    return opt_standard_form(n, config, config_len, out, out_len);
+}
