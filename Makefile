@@ -12,7 +12,7 @@
 #   make test-host    the library and the runner against an independent implementation, under 90 seconds
 #   make test-faults  the tests of calls against planted faults, each of which they have to find
 #   make test-machine the same with faults planted in the library's machine code
-#   make soak         10 million calls, sheets of votes and frame lines each, from a new seed each time
+#   make soak         10 million calls, sheets, spellings and frame lines each, from a new seed each time
 #   make season       seasons of one house, 10^9 calls in a night (SEED and FROM to go on where one ended)
 #   make bench        times beside an optimised C implementation
 #   make clean        removes what was made

@@ -137,14 +137,88 @@ void configuration_spoil(rng *r, unsigned n, uint8_t config[OSPREYSCREEN_CONFIGU
     }
 }
 
-bool configuration_holds(const uint8_t *config, unsigned side, unsigned stations)
+side_sets configuration_sets(const uint8_t *config, unsigned side)
 {
-    for (unsigned place = 0; place < used_places(config, side); place++) {
-        if ((configuration_set(config, side + place) & ~stations) == 0) {
+    side_sets s = {.count = used_places(config, side)};
+    for (unsigned place = 0; place < s.count; place++) {
+        s.sets[place] = configuration_set(config, side + place);
+    }
+    return s;
+}
+
+bool sets_hold(const side_sets *s, unsigned stations)
+{
+    for (unsigned i = 0; i < s->count; i++) {
+        if ((s->sets[i] & ~stations) == 0) {
             return true;
         }
     }
     return false;
+}
+
+static void put_sets(uint8_t *config, unsigned side, const side_sets *s)
+{
+    for (unsigned place = 0; place < PLACES; place++) {
+        configuration_set_to(config, side + place, place < s->count ? s->sets[place] : 0);
+    }
+}
+
+/* Whether the set contains another of them, or is repeated. */
+static bool spare(const side_sets *s, unsigned which)
+{
+    for (unsigned other = 0; other < s->count; other++) {
+        if (other != which && (s->sets[other] & ~s->sets[which]) == 0) {
+            return true;
+        }
+    }
+    return false;
+}
+
+/* Sets that are spare go, each once in so many times. */
+static void leave_spare_out(rng *r, side_sets *s, uint64_t times)
+{
+    for (unsigned which = s->count; which-- > 0;) {
+        if (spare(s, which) && rng_one_in(r, times)) {
+            s->sets[which] = s->sets[--s->count];
+        }
+    }
+}
+
+/* Sets come that are repeated or contain one, up to so many in all. */
+static void add_spare(rng *r, side_sets *s, unsigned n, unsigned most)
+{
+    while (s->count < most) {
+        unsigned set = s->sets[rng_below(r, s->count)];
+        unsigned more = rng_one_in(r, 3) ? 0 : part_of(r, part_of(r, all_stations(n)));
+        s->sets[s->count++] = set | more;
+    }
+}
+
+static void shuffle(rng *r, side_sets *s)
+{
+    for (unsigned left = s->count; left > 1; left--) {
+        unsigned drawn = (unsigned)rng_below(r, left);
+        unsigned set = s->sets[drawn];
+        s->sets[drawn] = s->sets[left - 1];
+        s->sets[left - 1] = set;
+    }
+}
+
+void configuration_respell(rng *r, unsigned n, uint8_t config[OSPREYSCREEN_CONFIGURATION_LENGTH])
+{
+    for (unsigned side = READ_SIDE; side <= WRITE_SIDE; side += WRITE_SIDE - READ_SIDE) {
+        side_sets s = configuration_sets(config, side);
+        leave_spare_out(r, &s, 1 + rng_below(r, 3));
+        add_spare(r, &s, n, rng_one_in(r, 3) ? PLACES : (unsigned)rng_below(r, PLACES + 1));
+        shuffle(r, &s);
+        put_sets(config, side, &s);
+    }
+}
+
+bool configuration_holds(const uint8_t *config, unsigned side, unsigned stations)
+{
+    side_sets s = configuration_sets(config, side);
+    return sets_hold(&s, stations);
 }
 
 unsigned configuration_write_set(const uint8_t *config, unsigned choice)

@@ -28,6 +28,20 @@ void configuration_among(rng *r, unsigned stations, uint8_t out[OSPREYSCREEN_CON
 /* Spoils a valid configuration; most results are not valid any more. */
 void configuration_spoil(rng *r, unsigned n, uint8_t config[OSPREYSCREEN_CONFIGURATION_LENGTH]);
 
+/* Gives a valid configuration of n stations another spelling: on each side sets
+ * that contain another come and go, sets are repeated, up to eight places are
+ * used, in any order. The same station sets pass. */
+void configuration_respell(rng *r, unsigned n, uint8_t config[OSPREYSCREEN_CONFIGURATION_LENGTH]);
+
+/* The used sets of a side, and whether the stations hold one of them. */
+typedef struct {
+    unsigned count;
+    unsigned sets[PLACES];
+} side_sets;
+
+side_sets configuration_sets(const uint8_t *config, unsigned side);
+bool sets_hold(const side_sets *s, unsigned stations);
+
 /* Whether the stations hold a used set of the side. */
 bool configuration_holds(const uint8_t *config, unsigned side, unsigned stations);
 

@@ -72,12 +72,6 @@ typedef struct {
     const char *replay;
 } options;
 
-static _Noreturn void usage(void)
-{
-    fprintf(stderr, "usage: %s\n", USAGE);
-    exit(EXIT_FAILURE);
-}
-
 static form form_named(const char *name)
 {
     for (int f = 0; f < LIST_FORMS; f++) {
@@ -85,7 +79,7 @@ static form form_named(const char *name)
             return (form)f;
         }
     }
-    usage();
+    options_give_up(USAGE);
 }
 
 static const implementation *implementation_named(const char *name)
@@ -96,7 +90,7 @@ static const implementation *implementation_named(const char *name)
     if (strcmp(name, OPTIMISED.name) == 0) {
         return &OPTIMISED;
     }
-    usage();
+    options_give_up(USAGE);
 }
 
 static options read_options(int argc, char **argv)

@@ -4,7 +4,7 @@
 #   make -f tests/host/host.mk test-host    short tests, under 90 seconds
 #   make -f tests/host/host.mk test-faults  the short tests of calls against each planted fault
 #   make -f tests/host/host.mk test-machine  the same with faults in the library's machine code
-#   make -f tests/host/host.mk soak         10 million calls, sheets of votes and frame lines, from a new seed
+#   make -f tests/host/host.mk soak         10 million calls, sheets, spellings and frame lines, from a new seed
 #   make -f tests/host/host.mk season       seasons of one house, 10^9 calls, from a new seed
 #   make -f tests/host/host.mk bench        times, as Markdown, CSV and SVG, in build/host/bench
 #   make -f tests/host/host.mk clean
@@ -82,20 +82,23 @@ PLAIN_LIBRARY := $(LIBRARY:%.o=$(OBJ)/plain/%.o)
 THE_RUNNER := $(call quote,$(or $(RUNNER),$(BIN)/plain/runner))
 
 # The programs, one line of objects for each. Those of the second list are built with the sanitizers too.
-PROGRAMS := differential votes_trial runner ref_runner random_frames print_calls cuts bench clean_frames throughput \
-    format_dump
-CHECKED_PROGRAMS := differential votes_trial runner ref_runner
+PROGRAMS := differential votes_trial form_trial runner ref_runner random_frames print_calls cuts bench clean_frames \
+    throughput format_dump
+CHECKED_PROGRAMS := differential votes_trial form_trial runner ref_runner
 EXAMPLES := examples/first_reading examples/season examples/votes
 
 LISTS := calls.o configurations.o damage.o draw.o generate.o guard.o lists.o outlook.o recorder.o reference.o runs.o
 DIFFERENTIAL := differential.o attempt.o book.o diagnose.o directed.o optimised.o options.o plan.o reach.o season.o \
     tally.o trial.o watch.o $(LISTS)
 VOTES_TRIAL := votes_trial.o calls.o configurations.o guard.o optimised.o optimised_votes.o searched_votes.o \
-    options.o ref_votes.o votes_cases.o votes_opinion.o votes_tally.o watch.o
+    options.o meters.o ref_votes.o votes_cases.o votes_opinion.o votes_tally.o watch.o writers.o
+FORM_TRIAL := form_trial.o calls.o configurations.o draw.o form_cases.o form_opinion.o form_tally.o guard.o \
+    listed_form.o meters.o optimised.o options.o reference.o watch.o writers.o
 OBJECTS_differential := $(DIFFERENTIAL) $(LIBRARY)
 OBJECTS_votes_trial := $(VOTES_TRIAL) $(LIBRARY)
-OBJECTS_bench := bench.o calls.o configurations.o optimised.o optimised_votes.o searched_votes.o options.o times.o \
-    votes_rows.o $(LIBRARY)
+OBJECTS_form_trial := $(FORM_TRIAL) $(LIBRARY)
+OBJECTS_bench := bench.o calls.o configurations.o form_rows.o listed_form.o optimised.o optimised_votes.o \
+    searched_votes.o options.o times.o votes_rows.o $(LIBRARY)
 OBJECTS_clean_frames := clean_frames.o calls.o configurations.o options.o
 OBJECTS_format_dump := format_dump.o $(LIBRARY)
 OBJECTS_runner := runner.o calls.o optimised.o
@@ -112,8 +115,8 @@ PLAIN := $(PROGRAMS:%=$(BIN)/plain/%) $(EXAMPLES:%=$(BIN)/plain/%)
 CHECKED := $(CHECKED_PROGRAMS:%=$(BIN)/checked/%) $(EXAMPLES:%=$(BIN)/checked/%)
 CXX_EXAMPLES := $(EXAMPLES:%=$(BIN)/c++17/%) $(EXAMPLES:%=$(BIN)/c++20/%)
 
-TESTS := test-header test-archive test-directed test-calls test-votes test-frames test-tool test-make test-example \
-    test-readme test-docs
+TESTS := test-header test-archive test-directed test-calls test-votes test-form test-frames test-tool test-make \
+    test-example test-readme test-docs
 .PHONY: build test-host test-faults test-machine soak season bench clean $(TESTS)
 .DELETE_ON_ERROR:
 
@@ -182,15 +185,25 @@ test-calls: build
 	$(BIN)/checked/differential --form random --calls $(CHECKED_CALLS) --seed $(SEED)
 	$(if $(LIB),$(BIN)/checked/differential --form random --calls $(CHECKED_CALLS) --seed $(SEED) --of optimised)
 
-# Votes into a configuration: all small sheets, and random ones in both builds and on the optimised C.
+# An entry that is no call on a table: all small cases, and random ones in both builds, on the optimised C and on its
+# rival of the benchmark.
+define TEST_WRITER
+@echo "$@: seed $(SEED)"
+$(BIN)/plain/$(1) --form directed --seed $(SEED)
+$(BIN)/plain/$(1) --form random --calls $(CALLS) --seed $(SEED)
+$(BIN)/checked/$(1) --form random --calls $(CHECKED_CALLS) --seed $(SEED)
+$(if $(LIB),$(BIN)/checked/$(1) --form directed --seed $(SEED) --of optimised)
+$(if $(LIB),$(BIN)/checked/$(1) --form random --calls $(CHECKED_CALLS) --seed $(SEED) --of optimised)
+$(if $(LIB),$(BIN)/checked/$(1) --form random --calls $(CHECKED_CALLS) --seed $(SEED) --of $(2))
+endef
+
+# Votes into a configuration.
 test-votes: build
-	@echo "$@: seed $(SEED)"
-	$(BIN)/plain/votes_trial --form directed --seed $(SEED)
-	$(BIN)/plain/votes_trial --form random --calls $(CALLS) --seed $(SEED)
-	$(BIN)/checked/votes_trial --form random --calls $(CHECKED_CALLS) --seed $(SEED)
-	$(if $(LIB),$(BIN)/checked/votes_trial --form directed --seed $(SEED) --of optimised)
-	$(if $(LIB),$(BIN)/checked/votes_trial --form random --calls $(CHECKED_CALLS) --seed $(SEED) --of optimised)
-	$(if $(LIB),$(BIN)/checked/votes_trial --form random --calls $(CHECKED_CALLS) --seed $(SEED) --of searched)
+	$(call TEST_WRITER,votes_trial,searched)
+
+# Configurations into their standard form.
+test-form: build
+	$(call TEST_WRITER,form_trial,listed)
 
 # Each fault in a copy of a reference, which stands in for the library; the other calls of votes are the optimised C's.
 TEST_FAULTS = python3 tests/host/test_faults.py --cc $(call quote,$(CC)) \
@@ -198,17 +211,20 @@ TEST_FAULTS = python3 tests/host/test_faults.py --cc $(call quote,$(CC)) \
     --seeds $(call quote,$(FAULT_SEEDS)) --calls $(CALLS) --forms random,directed
 FAULTY_DIFFERENTIAL := $(DIFFERENTIAL:%=$(OBJ)/plain/%)
 FAULTY_VOTES := $(VOTES_TRIAL:%=$(OBJ)/plain/%) $(OBJ)/plain/standin.o
-test-faults: $(FAULTY_DIFFERENTIAL) $(FAULTY_VOTES)
+FAULTY_FORM := $(FORM_TRIAL:%=$(OBJ)/plain/%)
+test-faults: $(FAULTY_DIFFERENTIAL) $(FAULTY_VOTES) $(FAULTY_FORM)
 	$(TEST_FAULTS) --objects $(call quote,$(FAULTY_VOTES)) --reference ref_votes --faults faults/votes
+	$(TEST_FAULTS) --objects $(call quote,$(FAULTY_FORM)) --reference reference --faults faults/form
 	$(TEST_FAULTS) --objects $(call quote,$(FAULTY_DIFFERENTIAL)) --reference reference --faults faults
 
-# Each instruction of the library with a fault in it; some faults change nothing, and survive. What has votes in its
-# name is no part of the calls on a table, and has a test of its own.
+# Each instruction of the library with a fault in it; some faults change nothing, and survive. What has vote or
+# standard in its name is no part of the calls on a table alone, and has a test of its own.
 TEST_MACHINE = python3 tests/host/test_machine_faults.py $(1) $(if $(LIB),$(ARCHIVE),"a library is needed") \
     --out $(BIN)/machine-faults --seed $(SEED) --calls $(CALLS) --most $(MOST_SURVIVORS) --functions $(call quote,$(2))
-test-machine: $(BIN)/plain/differential $(BIN)/plain/votes_trial
+test-machine: $(BIN)/plain/differential $(BIN)/plain/votes_trial $(BIN)/plain/form_trial
 	$(call TEST_MACHINE,$(BIN)/plain/votes_trial,vote)
-	$(call TEST_MACHINE,$(BIN)/plain/differential,^(?!.*vote))
+	$(call TEST_MACHINE,$(BIN)/plain/form_trial,standard)
+	$(call TEST_MACHINE,$(BIN)/plain/differential,^(?!.*(vote|standard)))
 
 season: build
 	@echo "$@: seed $(SEED)"
@@ -264,7 +280,7 @@ test-readme: $(PLAIN_LIBRARY)
 test-docs: build
 	python3 tests/host/test_docs.py $(THE_RUNNER) $(BIN)/plain/format_dump $(BIN)/plain/examples/votes
 
-soak: test-directed test-calls test-votes test-frames
+soak: test-directed test-calls test-votes test-form test-frames
 
 # The times stand apart from the programs, where they are found.
 TIMES := build/host/bench

@@ -41,13 +41,18 @@ static bool take(const option *o, const char *next)
     return o->number != NULL && number_in(next, o->most, o->number);
 }
 
+_Noreturn void options_give_up(const char *usage)
+{
+    fprintf(stderr, "usage: %s\n", usage);
+    exit(EXIT_FAILURE);
+}
+
 void options_read(int argc, char **argv, const char *usage, const option *options, size_t count)
 {
     for (int i = 1; i < argc; i++) {
         const option *o = named(options, count, argv[i]);
         if (o == NULL || !take(o, argv[i + 1])) { /* argv ends with a null pointer */
-            fprintf(stderr, "usage: %s\n", usage);
-            exit(EXIT_FAILURE);
+            options_give_up(usage);
         }
         i += o->flag == NULL;
     }

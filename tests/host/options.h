@@ -19,6 +19,9 @@ typedef struct {
  * error if a word is no option, or its number is none or too large. */
 void options_read(int argc, char **argv, const char *usage, const option *options, size_t count);
 
+/* Ends the program with the usage on standard error. */
+_Noreturn void options_give_up(const char *usage);
+
 /* The number in the text; false if it is none, or above most. */
 bool number_in(const char *text, uint64_t most, uint64_t *number);
 

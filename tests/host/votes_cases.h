@@ -2,11 +2,10 @@
 #ifndef VOTES_CASES_H
 #define VOTES_CASES_H
 
-#include "ospreyscreen.h"
-#include "rng.h"
+#include "writers.h"
 
 /* More than 2^16 votes, so that their number is cut by 16 bits too. */
-enum { VOTES_ROOM = (1 << 16) + 300, OUT_ROOM = 300 };
+enum { VOTES_ROOM = (1 << 16) + 300 };
 
 /* What one call is given. A length of 0 goes with a null pointer or not. */
 typedef struct {

@@ -1,25 +1,11 @@
 #include "votes_opinion.h"
 
+#include <string.h>
+
 /* Up to so many stations every set is asked for, above it seldom. */
 enum { EVERY_SET = 6, SELDOM = 16, SAMPLES = 32 };
 
 enum { START = 500, VALUE = 510 };
-
-/* The used sets of a side. */
-typedef struct {
-    unsigned count;
-    unsigned sets[PLACES];
-} side_sets;
-
-static side_sets side_of(const uint8_t *config, unsigned first)
-{
-    side_sets side = {.count = 0};
-    while (side.count < PLACES && configuration_set(config, first + side.count) != 0) {
-        side.sets[side.count] = configuration_set(config, first + side.count);
-        side.count++;
-    }
-    return side;
-}
 
 static unsigned any_of(const side_sets *side, rng *r)
 {
@@ -28,22 +14,12 @@ static unsigned any_of(const side_sets *side, rng *r)
 
 /* ---- Sets and their votes ---- */
 
-static bool holds(const side_sets *side, unsigned set)
-{
-    for (unsigned i = 0; i < side->count; i++) {
-        if ((side->sets[i] & ~set) == 0) {
-            return true;
-        }
-    }
-    return false;
-}
-
 /* "A station set must hold a listed set exactly when its votes reach that
  * threshold". */
 static bool agree(const sheet *s, const side_sets *reads, const side_sets *writes, unsigned set)
 {
     uint64_t votes = votes_of_set(s, set);
-    return holds(reads, set) == (votes >= s->read) && holds(writes, set) == (votes >= s->write);
+    return sets_hold(reads, set) == (votes >= s->read) && sets_hold(writes, set) == (votes >= s->write);
 }
 
 static bool all_agree(const sheet *s, const side_sets *reads, const side_sets *writes)
@@ -188,11 +164,20 @@ static const char *house_wrong(const implementation *with, const sheet *s, const
     return NULL;
 }
 
+/* Whether the configuration is its own standard form. */
+static bool is_standard(const implementation *with, const sheet *s, const uint8_t *config)
+{
+    uint8_t form[OSPREYSCREEN_CONFIGURATION_LENGTH];
+    ospreyscreen_reply reply =
+        with->standard_form(s->votes_len, config, sizeof form, form, sizeof form);
+    return reply.number == OSPREYSCREEN_DONE && memcmp(form, config, sizeof form) == 0;
+}
+
 const char *votes_wrong(const implementation *with, const sheet *s, const uint8_t *config, rng *r,
                         votes_tally *counts)
 {
-    side_sets reads = side_of(config, READ_SIDE);
-    side_sets writes = side_of(config, WRITE_SIDE);
+    side_sets reads = configuration_sets(config, READ_SIDE);
+    side_sets writes = configuration_sets(config, WRITE_SIDE);
     bool every = s->votes_len <= EVERY_SET || rng_one_in(r, SELDOM);
 
     if (reads.count == 0 || writes.count == 0) {
@@ -200,6 +185,9 @@ const char *votes_wrong(const implementation *with, const sheet *s, const uint8_
     }
     if (!(every ? all_agree(s, &reads, &writes) : some_agree(s, &reads, &writes, r))) {
         return "a set of stations does not hold a listed set exactly if its votes reach";
+    }
+    if (!is_standard(with, s, config)) {
+        return "the configuration is not its own standard form";
     }
     const char *wrong = house_wrong(with, s, config, any_of(&reads, r), any_of(&writes, r),
                                     any_of(&reads, r));

@@ -1,6 +1,7 @@
 /*
  * What the configuration of a sheet has to do, asked without the reference:
- * sets of stations are held to their votes, and a house is run with it.
+ * sets of stations are held to their votes, it is its own standard form, and a
+ * house is run with it.
  */
 #ifndef VOTES_OPINION_H
 #define VOTES_OPINION_H

@@ -1,5 +1,6 @@
 #include "votes_tally.h"
 
+#include "meters.h"
 #include "ref_votes.h"
 
 #include <inttypes.h>
@@ -40,7 +41,8 @@ static const char *const METERS[VOTES_METERS] = {
     [VOTES_EVERY_SET] = "configurations of 16 stations asked for every set",
 };
 
-static const char *const SIDES[VOTES_SIDES] = {"read", "write"};
+static const char STATIONS[] = "done, stations";
+static const char *const SIDES[VOTES_SIDES] = {"done, read sets", "done, write sets"};
 
 uint64_t votes_of_set(const sheet *s, unsigned set)
 {
@@ -224,42 +226,19 @@ void votes_tally_call(votes_tally *t, const sheet *s, uint64_t number, const uin
 void votes_tally_print(FILE *to, const votes_tally *t)
 {
     fprintf(to, "%9" PRIu64 "  calls\n", t->calls);
-    for (int m = 0; m < VOTES_METERS; m++) {
-        fprintf(to, "%9" PRIu64 "  %s\n", t->met[m], METERS[m]);
-    }
-    fprintf(to, "done with n stations, 1 to 16:");
-    for (int n = 1; n <= OSPREYSCREEN_STATIONS_MAX; n++) {
-        fprintf(to, " %" PRIu64, t->done[n]);
-    }
+    meters_print(to, METERS, t->met, VOTES_METERS);
+    numbers_print(to, STATIONS, t->done, OSPREYSCREEN_STATIONS_MAX);
     for (int side = 0; side < VOTES_SIDES; side++) {
-        fprintf(to, "\ndone with 1 to 8 %s sets:", SIDES[side]);
-        for (int count = 1; count <= PLACES; count++) {
-            fprintf(to, " %" PRIu64, t->sets[side][count]);
-        }
+        numbers_print(to, SIDES[side], t->sets[side], PLACES);
     }
-    fprintf(to, "\n");
 }
 
 bool votes_tally_met_all(FILE *to, const votes_tally *t)
 {
-    bool all = true;
-    for (int m = 0; m < VOTES_METERS; m++) {
-        if (t->met[m] == 0) {
-            fprintf(to, "not met: %s\n", METERS[m]);
-            all = false;
-        }
-    }
-    for (int n = 1; n <= OSPREYSCREEN_STATIONS_MAX; n++) {
-        if (t->done[n] == 0) {
-            fprintf(to, "not met: done with n = %d\n", n);
-            all = false;
-        }
-    }
-    for (int place = 0; place < VOTES_SIDES * PLACES; place++) {
-        if (t->sets[place / PLACES][1 + place % PLACES] == 0) {
-            fprintf(to, "not met: %d %s sets\n", 1 + place % PLACES, SIDES[place / PLACES]);
-            all = false;
-        }
+    bool all = meters_met_all(to, METERS, t->met, VOTES_METERS);
+    all &= numbers_met_all(to, STATIONS, t->done, OSPREYSCREEN_STATIONS_MAX);
+    for (int side = 0; side < VOTES_SIDES; side++) {
+        all &= numbers_met_all(to, SIDES[side], t->sets[side], PLACES);
     }
     return all;
 }

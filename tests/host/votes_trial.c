@@ -11,15 +11,12 @@
  * bytes in the output; stations whose votes are not given have none. The exit
  * status is 1 if a sheet fails, and 2 if a run has not met what it should.
  */
-#include "guard.h"
 #include "optimised.h"
 #include "options.h"
 #include "ref_votes.h"
 #include "votes_opinion.h"
-#include "watch.h"
 
 #include <inttypes.h>
-#include <stdlib.h>
 #include <string.h>
 
 static const char USAGE[] =
@@ -28,15 +25,8 @@ static const char USAGE[] =
     "                   [--votes \"V V ..\" [--stations N] [--read R] [--write W] [--out N]\n"
     "                   [--null]]";
 
-enum { SECONDS = 10, REPEATS = 100, NOT_MET = 2, REPLY_SIZE = sizeof(ospreyscreen_reply) };
-
 typedef ospreyscreen_reply votes_function(const uint8_t *, size_t, uint64_t, uint64_t, uint8_t *,
                                           size_t);
-
-/* The function as it is called: with where the reply goes in front (calls.h
- * says why). */
-typedef const void *votes_call(uint8_t *reply, const uint8_t *votes, size_t votes_len,
-                               uint64_t read, uint64_t write, uint8_t *out, size_t out_len);
 
 /* A function of votes, and the calls that its configurations are used with. */
 typedef struct {
@@ -50,200 +40,88 @@ static const tested_library LIBRARIES[] = {
     {.votes = opt_votes_searched, .calls = IMPLEMENTATION("searched", opt_)},
 };
 
-/* One of the two that are compared, and what it is lent. */
-typedef struct {
-    const char *name;
-    votes_call *votes;
-    guarded lent_votes;
-    guarded lent_out;
-    guarded lent_reply;
-} party;
+/* ---- Sheets as cases ---- */
 
-typedef struct {
-    const char *program;
-    const tested_library *of;
-    party tested;
-    party reference;
-    rng source; /* of what is lent, and how */
-    const sheet *sheet;
-    const char *why; /* the sheet fails */
-    votes_tally counts;
-} trial;
-
-/* ---- One call ---- */
-
-static party party_make(const char *name, votes_function *votes)
+static lending sheet_lends(const void *given)
 {
-    return (party){
-        .name = name,
-        .votes = (votes_call *)(void (*)(void))votes,
-        .lent_votes = guard_make(VOTES_ROOM, GUARD_READ_ONLY),
-        .lent_out = guard_make(OUT_ROOM, GUARD_WRITABLE),
-        .lent_reply = guard_make(REPLY_SIZE, GUARD_WRITABLE),
-    };
+    const sheet *s = given;
+    return (lending){s->votes, s->votes_len, s->out_len, s->null};
 }
 
-/* Makes the call on lent buffers, the output with bytes of its own in it;
- * false if the reply is not where it is to be. */
-static bool make_call(party *p, const sheet *s, guard_place place, const uint8_t *before)
+static const void *make_votes(any_function *function, const void *given, uint8_t *reply,
+                              const uint8_t *votes, uint8_t *out)
 {
-    uint8_t *votes = guard_lend(&p->lent_votes, s->votes_len, place);
-    uint8_t *out = guard_lend(&p->lent_out, s->out_len, place);
-    uint8_t *reply = guard_lend(&p->lent_reply, REPLY_SIZE, GUARD_AFTER);
-
-    memcpy(guard_inside(&p->lent_votes), s->votes, s->votes_len);
-    memcpy(guard_inside(&p->lent_out), before, s->out_len);
-    memset(guard_inside(&p->lent_reply), 0xC3, REPLY_SIZE);
-    return p->votes(reply, s->null && s->votes_len == 0 ? NULL : votes, s->votes_len, s->read,
-                    s->write, s->null && s->out_len == 0 ? NULL : out, s->out_len) == reply;
+    typedef const void *votes_call(uint8_t *, const uint8_t *, size_t, uint64_t, uint64_t,
+                                   uint8_t *, size_t);
+    const sheet *s = given;
+    return ((votes_call *)function)(reply, votes, s->votes_len, s->read, s->write, out, s->out_len);
 }
 
-static ospreyscreen_reply reply_of(const party *p)
+static const char *wrong_output(writer_trial *t, const void *given, const uint8_t *out)
 {
-    ospreyscreen_reply reply;
-    memcpy(&reply, guard_inside(&p->lent_reply), sizeof reply);
-    return reply;
+    return votes_wrong(t->calls, given, out, &t->source, t->counts);
 }
 
-static bool intact(const party *p)
+static void count_sheet(void *counts, const void *given, uint64_t number, const uint8_t *out)
 {
-    return guard_intact(&p->lent_votes) && guard_intact(&p->lent_out) &&
-           guard_intact(&p->lent_reply);
+    votes_tally_call(counts, given, number, out);
 }
 
-static bool same(const guarded *a, const guarded *b)
+static void print_counts(FILE *to, const void *counts)
 {
-    return memcmp(guard_inside(a), guard_inside(b), a->len) == 0;
+    votes_tally_print(to, counts);
 }
 
-/* ---- One sheet ---- */
-
-/* Makes the call with both; gives what is wrong, or a null pointer. */
-static const char *compare(trial *t, const sheet *s, const uint8_t *before)
+static bool met_all(FILE *to, const void *counts)
 {
-    party *tested = &t->tested;
-    party *reference = &t->reference;
-    guard_place place = (guard_place)rng_below(&t->source, GUARD_PLACES);
-    bool placed = make_call(reference, s, place, before);
-
-    placed &= make_call(tested, s, place, before);
-    if (!placed) {
-        return "a reply is not where the caller wants it";
-    }
-    if (!same(&tested->lent_reply, &reference->lent_reply)) {
-        return "the replies differ";
-    }
-    if (!same(&tested->lent_out, &reference->lent_out)) {
-        return "the outputs differ";
-    }
-    if (memcmp(guard_inside(&tested->lent_votes), s->votes, s->votes_len) != 0) {
-        return "the votes have changed";
-    }
-    if (!intact(tested) || !intact(reference)) {
-        return "a byte outside the lent ones has changed";
-    }
-    return NULL;
+    return votes_tally_met_all(to, counts);
 }
 
-static void try_sheet(void *with)
+static void print_sheet(const void *given)
 {
-    trial *t = with;
-    const sheet *s = t->sheet;
-    uint8_t before[OUT_ROOM];
+    const sheet *s = given;
+    size_t count = s->votes_len;
 
-    for (size_t i = 0; i < s->out_len; i++) {
-        before[i] = (uint8_t)rng_next(&t->source);
+    printf("--votes \"");
+    while (count > 0 && s->votes[count - 1] == 0) {
+        count--;
     }
-    t->why = compare(t, s, before);
-    if (t->why != NULL) {
-        return;
-    }
-    const uint8_t *out = guard_inside(&t->tested.lent_out);
-    ospreyscreen_reply reply = reply_of(&t->tested);
-    if (reply.number == OSPREYSCREEN_DONE) {
-        t->why = votes_wrong(&t->of->calls, s, out, &t->source, &t->counts);
-    } else if (memcmp(out, before, s->out_len) != 0) {
-        t->why = "a refusal changed the output";
-    }
-    votes_tally_call(&t->counts, s, reply.number, out);
-}
-
-/* ---- A failure ---- */
-
-static void print_party(const party *p)
-{
-    ospreyscreen_reply reply = reply_of(p);
-    printf("%s: number %" PRIu64 ", figures %" PRIu64 " %" PRIu64 " %" PRIu64 ", output ", p->name,
-           reply.number, reply.first, reply.second, reply.third);
-    for (size_t i = 0; i < p->lent_out.len; i++) {
-        printf("%02X", guard_inside(&p->lent_out)[i]);
-    }
-    printf("\n");
-}
-
-static void tell_failure(const trial *t)
-{
-    const sheet *s = t->sheet;
-    size_t given = s->votes_len;
-
-    print_party(&t->tested);
-    print_party(&t->reference);
-    printf("FAILED: %s\nrepeat it: %s --votes \"", t->why, t->program);
-    while (given > 0 && s->votes[given - 1] == 0) {
-        given--;
-    }
-    for (size_t i = 0; i < given; i++) {
+    for (size_t i = 0; i < count; i++) {
         printf(i == 0 ? "%u" : " %u", s->votes[i]);
     }
-    printf("\" --stations %zu --read %" PRIu64 " --write %" PRIu64 " --out %zu%s --of %s\n",
-           s->votes_len, s->read, s->write, s->out_len, s->null ? " --null" : "", t->tested.name);
+    printf("\" --stations %zu --read %" PRIu64 " --write %" PRIu64, s->votes_len, s->read, s->write);
 }
 
-/* Tries the sheet; tells if it fails. */
-static bool passes(void *with, const sheet *s)
+static bool sheet_passes(void *with, const sheet *s)
 {
-    trial *t = with;
-
-    t->sheet = s;
-    const char *stopped = watch(try_sheet, t, SECONDS);
-    if (stopped != NULL) {
-        t->why = stopped;
-    }
-    if (t->why != NULL) {
-        tell_failure(t);
-    }
-    return t->why == NULL;
+    return writer_passes(with, s);
 }
 
-/* ---- The runs ---- */
-
-static bool run_random(trial *t, uint64_t calls, uint64_t seed)
+static bool directed_sheets(writer_trial *t)
 {
-    rng r = {seed};
-    for (uint64_t i = 0; i < calls; i++) {
-        sheet s = votes_random(&r);
-        if (!passes(t, &s)) {
-            return false;
-        }
-    }
-    return true;
+    return votes_directed(sheet_passes, t);
 }
 
-static int run_form(trial *t, bool directed, uint64_t calls, uint64_t seed)
+static const void *random_sheet(rng *r)
 {
-    printf("%s against %s: %s sheets, seed %" PRIu64 "\n", t->tested.name, t->reference.name,
-           directed ? "directed" : "random", seed);
-    if (!(directed ? votes_directed(passes, t) : run_random(t, calls, seed))) {
-        return EXIT_FAILURE;
-    }
-    votes_tally_print(stdout, &t->counts);
-    if (!votes_tally_met_all(stdout, &t->counts)) {
-        printf("NOT MET: no difference, but the run has not met all that it should\n");
-        return NOT_MET;
-    }
-    printf("PASSED: no difference\n");
-    return EXIT_SUCCESS;
+    static sheet s;
+    s = votes_random(r);
+    return &s;
 }
+
+static const writer VOTES = {
+    .cases = "sheets",
+    .in_room = VOTES_ROOM,
+    .lends = sheet_lends,
+    .make = make_votes,
+    .wrong = wrong_output,
+    .count = count_sheet,
+    .print_counts = print_counts,
+    .met_all = met_all,
+    .print_case = print_sheet,
+    .directed = directed_sheets,
+    .random = random_sheet,
+};
 
 /* ---- The command line ---- */
 
@@ -278,21 +156,6 @@ static options read_options(int argc, char **argv)
     return o;
 }
 
-static _Noreturn void usage(void)
-{
-    fprintf(stderr, "usage: %s\n", USAGE);
-    exit(EXIT_FAILURE);
-}
-
-/* One of two names; true if it is the second. */
-static bool is_directed(const char *form)
-{
-    if (strcmp(form, "random") != 0 && strcmp(form, "directed") != 0) {
-        usage();
-    }
-    return strcmp(form, "directed") == 0;
-}
-
 /* Reads the votes in the text; gives how many there are. */
 static size_t read_votes(const char *text, uint8_t votes[VOTES_ROOM])
 {
@@ -303,30 +166,23 @@ static size_t read_votes(const char *text, uint8_t votes[VOTES_ROOM])
     for (; sscanf(text, "%7s%n", word, &length) == 1; text += length) {
         uint64_t number;
         if (count == VOTES_ROOM || !number_in(word, UINT8_MAX, &number)) {
-            usage();
+            options_give_up(USAGE);
         }
         votes[count++] = (uint8_t)number;
     }
     return count;
 }
 
-static int run_one(trial *t, const options *o)
+/* The one sheet that the options tell. */
+static const sheet *one_sheet(options *o)
 {
     static uint8_t votes[VOTES_ROOM];
     size_t given = read_votes(o->votes, votes);
-    sheet s = o->one;
 
-    s.votes = votes;
-    s.votes_len = o->stations > given ? o->stations : given;
-    s.out_len = o->out_len;
-    for (int i = 0; i < REPEATS; i++) {
-        if (!passes(t, &s)) {
-            return EXIT_FAILURE;
-        }
-    }
-    print_party(&t->tested);
-    printf("PASSED: no difference\n");
-    return EXIT_SUCCESS;
+    o->one.votes = votes;
+    o->one.votes_len = o->stations > given ? o->stations : given;
+    o->one.out_len = o->out_len;
+    return &o->one;
 }
 
 static const tested_library *library_named(const char *name)
@@ -337,20 +193,19 @@ static const tested_library *library_named(const char *name)
             return &LIBRARIES[i];
         }
     }
-    usage();
+    options_give_up(USAGE);
 }
 
 int main(int argc, char **argv)
 {
-    static trial t;
+    static votes_tally counts;
     options o = read_options(argc, argv);
-    bool directed = is_directed(o.form);
+    bool directed = writer_is_directed(o.form, USAGE);
+    const tested_library *of = library_named(o.of);
 
     setvbuf(stdout, NULL, _IOLBF, 0);
-    t.program = argv[0];
-    t.of = library_named(o.of);
-    t.tested = party_make(t.of->calls.name, t.of->votes);
-    t.reference = party_make("reference", ref_votes);
-    t.source.state = o.seed;
-    return o.votes != NULL ? run_one(&t, &o) : run_form(&t, directed, o.calls, o.seed);
+    writer_trial t = writer_trial_make(&VOTES, argv[0], &of->calls, (any_function *)of->votes,
+                                       (any_function *)ref_votes, &counts, o.seed);
+    return o.votes != NULL ? writer_run_one(&t, one_sheet(&o))
+                           : writer_run(&t, directed, o.calls, o.seed);
 }
