@@ -2,8 +2,8 @@
  * Times the library beside the optimised C in one run.
  *
  *   bench [--samples N]             a Markdown table: calls, whole rounds,
- *                                   refusals and votes; behind it the highest
- *                                   ratios
+ *                                   refusals, votes and standard forms; behind
+ *                                   it the highest ratios
  *   bench --growth [--samples N]    a CSV table: cost against the number of copies
  *
  * A sample is the mean time of a batch of runs. Batches of the two
@@ -14,6 +14,7 @@
  */
 #include "calls.h"
 #include "configurations.h"
+#include "form_rows.h"
 #include "optimised.h"
 #include "options.h"
 #include "times.h"
@@ -292,6 +293,14 @@ FOR_EACH_SIDE uint64_t spoil_config(const implementation *with, scene *s)
     return 0;
 }
 
+/* The configuration given becomes its standard form. */
+FOR_EACH_SIDE uint64_t standard_config(const implementation *with, scene *s)
+{
+    uint8_t given[OSPREYSCREEN_CONFIGURATION_LENGTH];
+    memcpy(given, s->config, sizeof given);
+    return with->standard_form(s->n, given, sizeof given, s->config, sizeof s->config).number;
+}
+
 FOR_EACH_SIDE uint64_t spend_version(const implementation *with, scene *s)
 {
     uint64_t numbers = write_to_puts(with, s);
@@ -351,9 +360,12 @@ EACH_SIDE(poll_beyond)
 
 static const row ROWS[] = {
     {"lay", nothing, BY_SIDE(lay), NOTHING, OSPREYSCREEN_DONE},
+    {"lay, standard form given", standard_config, BY_SIDE(lay), NOTHING, OSPREYSCREEN_DONE},
     {"open read", nothing, BY_SIDE(open_read), HEAD, OSPREYSCREEN_DONE},
     {"open write", nothing, BY_SIDE(open_write), HEAD, OSPREYSCREEN_DONE},
     {"open change", nothing, BY_SIDE(open_change), HEAD, OSPREYSCREEN_DONE},
+    {"open change, standard form given", standard_config, BY_SIDE(open_change), HEAD,
+     OSPREYSCREEN_DONE},
     {"poll", read_to_commit, BY_SIDE(poll_last), NOTHING, OSPREYSCREEN_DONE},
     {"put", write_to_puts, BY_SIDE(put_last), NOTHING, OSPREYSCREEN_DONE},
     {"commit of a read", read_to_commit, BY_SIDE(commit), HEAD, OSPREYSCREEN_DONE},
@@ -527,6 +539,7 @@ static void print_table(scene *s, unsigned samples)
         }
     }
     print_votes_rows(samples, &sum);
+    print_form_rows(samples, &sum);
     print_summary(&sum);
 }
 
