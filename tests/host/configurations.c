@@ -185,11 +185,11 @@ static void leave_spare_out(rng *r, side_sets *s, uint64_t times)
 }
 
 /* Sets come that are repeated or contain one, up to so many in all. */
-static void add_spare(rng *r, side_sets *s, unsigned n, unsigned most)
+static void add_spare(rng *r, side_sets *s, unsigned stations, unsigned most)
 {
-    while (s->count < most) {
+    while (s->count > 0 && s->count < most) {
         unsigned set = s->sets[rng_below(r, s->count)];
-        unsigned more = rng_one_in(r, 3) ? 0 : part_of(r, part_of(r, all_stations(n)));
+        unsigned more = rng_one_in(r, 3) ? 0 : part_of(r, part_of(r, stations));
         s->sets[s->count++] = set | more;
     }
 }
@@ -204,12 +204,13 @@ static void shuffle(rng *r, side_sets *s)
     }
 }
 
-void configuration_respell(rng *r, unsigned n, uint8_t config[OSPREYSCREEN_CONFIGURATION_LENGTH])
+void configuration_respell(rng *r, unsigned stations,
+                           uint8_t config[OSPREYSCREEN_CONFIGURATION_LENGTH])
 {
     for (unsigned side = READ_SIDE; side <= WRITE_SIDE; side += WRITE_SIDE - READ_SIDE) {
         side_sets s = configuration_sets(config, side);
         leave_spare_out(r, &s, 1 + rng_below(r, 3));
-        add_spare(r, &s, n, rng_one_in(r, 3) ? PLACES : (unsigned)rng_below(r, PLACES + 1));
+        add_spare(r, &s, stations, rng_one_in(r, 3) ? PLACES : (unsigned)rng_below(r, PLACES + 1));
         shuffle(r, &s);
         put_sets(config, side, &s);
     }

@@ -28,10 +28,11 @@ void configuration_among(rng *r, unsigned stations, uint8_t out[OSPREYSCREEN_CON
 /* Spoils a valid configuration; most results are not valid any more. */
 void configuration_spoil(rng *r, unsigned n, uint8_t config[OSPREYSCREEN_CONFIGURATION_LENGTH]);
 
-/* Gives a valid configuration of n stations another spelling: on each side sets
- * that contain another come and go, sets are repeated, up to eight places are
- * used, in any order. The same station sets pass. */
-void configuration_respell(rng *r, unsigned n, uint8_t config[OSPREYSCREEN_CONFIGURATION_LENGTH]);
+/* Gives a configuration another spelling: on each side sets that contain another
+ * come and go, sets are repeated, up to eight places are used, in any order. The
+ * same station sets pass. What is added to a set is of the stations. */
+void configuration_respell(rng *r, unsigned stations,
+                           uint8_t config[OSPREYSCREEN_CONFIGURATION_LENGTH]);
 
 /* The used sets of a side, and whether the stations hold one of them. */
 typedef struct {

@@ -118,6 +118,15 @@ void damage_order(rng *r, uint8_t *table, unsigned item)
     }
 }
 
+void damage_spelling(rng *r, uint8_t *table, size_t len)
+{
+    bool change = table[ROUND_AT] == OSPREYSCREEN_ROUND_CHANGE;
+
+    for (size_t at = change ? 0 : HEAD; at < len; at += COPY) { /* a target stands like a copy's */
+        configuration_respell(r, all_stations(stations_in(table)), table + at + CONFIGURATION_IN);
+    }
+}
+
 void damage_counters(rng *r, uint8_t *table, size_t len)
 {
     for (size_t at = HEAD; at + COPY <= len; at += COPY) {

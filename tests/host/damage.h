@@ -30,6 +30,10 @@ void damage_tie(rng *r, uint8_t *table, unsigned item);
  * station. The table stays sound. */
 void damage_order(rng *r, uint8_t *table, unsigned item);
 
+/* Gives every configuration of a sound table another spelling, the head's target
+ * too. The table stays sound. */
+void damage_spelling(rng *r, uint8_t *table, size_t len);
+
 /* Sets counters at both ends of their range, in one copy in four. The table
  * stays as sound as it was. */
 void damage_counters(rng *r, uint8_t *table, size_t len);

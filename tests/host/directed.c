@@ -1062,6 +1062,174 @@ static void heard_and_lost(generator *g, uint64_t index)
     call_on_scene(g, call_reach(0));
 }
 
+/* ---- Spellings ---- */
+
+/* What a sheet does to the standard form; the last is anything. */
+typedef enum { AS_IT_IS, FALLING, REPEATED, CONTAINING, CONTAINING_FIRST, ANY_SPELLING, SPELLINGS } sheet;
+
+/* The used sets of the side in falling order: they rise. */
+static void turn_round(uint8_t *config, unsigned side)
+{
+    side_sets s = configuration_sets(config, side);
+    for (unsigned place = 0; place < s.count; place++) {
+        configuration_set_to(config, side + place, s.sets[s.count - 1 - place]);
+    }
+}
+
+/* The places that are left on the side get used sets again, with some of these
+ * stations in them too. */
+static void fill_up(rng *r, uint8_t *config, unsigned side, unsigned more)
+{
+    side_sets s = configuration_sets(config, side);
+    for (unsigned place = s.count; place < PLACES; place++) {
+        unsigned set = s.sets[rng_below(r, s.count)];
+        configuration_set_to(config, side + place, set | part_of(r, more));
+    }
+}
+
+static void respell_side(rng *r, uint8_t *config, unsigned side, unsigned all, sheet how)
+{
+    switch (how) {
+    case FALLING:
+        turn_round(config, side);
+        break;
+    case REPEATED:
+        fill_up(r, config, side, 0);
+        break;
+    case CONTAINING:
+        fill_up(r, config, side, all);
+        break;
+    case CONTAINING_FIRST:
+        fill_up(r, config, side, all);
+        turn_round(config, side);
+        break;
+    default:
+        break;
+    }
+}
+
+/* A sheet for the house that this standard form of n stations is for. */
+static void spell(rng *r, unsigned n, const uint8_t *standard, sheet how, uint8_t *config)
+{
+    memcpy(config, standard, CONFIGURATION);
+    respell_side(r, config, READ_SIDE, all_stations(n), how);
+    respell_side(r, config, WRITE_SIDE, all_stations(n), how);
+    if (how == ANY_SPELLING) {
+        configuration_respell(r, all_stations(n), config);
+    }
+}
+
+/* The standard form of some configuration of n stations; every other time of
+ * majorities, so that many sets are left. */
+static void draw_standard(rng *r, unsigned n, uint8_t *standard)
+{
+    uint8_t config[CONFIGURATION];
+
+    if (rng_one_in(r, 2)) {
+        configuration_majorities(r, n, config);
+    } else {
+        draw_configuration(r, n, config);
+    }
+    ref_standard_form(n, config, CONFIGURATION, standard, CONFIGURATION);
+}
+
+/* A read of item 0 for each of its read sets as station 0 has it, which polls
+ * that set alone: the last poll and a diagnose show its place, or an earlier one. */
+static void poll_each_place(generator *g, unsigned n)
+{
+    uint8_t config[CONFIGURATION];
+
+    memcpy(config, recorded_table(&g->to)->bytes + copy_at(n, 0, 0) + CONFIGURATION_IN, CONFIGURATION);
+    side_sets reads = configuration_sets(config, READ_SIDE);
+    for (unsigned place = 0; place < reads.count; place++) {
+        make(g, call_open_read(0));
+        for (unsigned set = reads.sets[place]; set != 0; set &= set - 1) {
+            make(g, call_poll((unsigned)__builtin_ctz(set)));
+        }
+        ask_and_commit(g);
+    }
+}
+
+/* Two sheets of one house are laid one after the other; rounds go on with the
+ * second, and change to another house by a sheet of the same sort. The book
+ * covers these. */
+static void two_sheets(generator *g, uint64_t index)
+{
+    rng *r = &g->source;
+    unsigned n = 1 + (unsigned)index % STATIONS;
+    sheet how = (sheet)(index / STATIONS % SPELLINGS);
+    uint8_t here[CONFIGURATION];
+    uint8_t there[CONFIGURATION];
+    uint8_t config[CONFIGURATION];
+
+    draw_standard(r, n, here);
+    draw_standard(r, n, there);
+    record_table(&g->to, OSPREYSCREEN_TABLE_LENGTH(n, 2u), draw_place(r), false);
+    lay(g, n, 2, here, CONFIGURATION);
+    spell(r, n, here, how, config);
+    lay(g, n, 2, config, CONFIGURATION);
+    link_all(g, all_stations(n));
+    poll_each_place(g, n);
+    write_round(g, n, 0);
+    spell(r, n, there, how, config);
+    change_round(g, n, 0, config);
+    poll_each_place(g, n);
+    make(g, call_reach(0));
+    make(g, call_plan(0));
+    spell(r, n, there, ANY_SPELLING, config);
+    change_round(g, n, 0, config);
+    read_round(g, n, 0);
+}
+
+/* A sheet that is false by a set alone that the standard form would not have: it
+ * contains another and names a station that is none, or stands behind a gap. */
+static void false_sheets(generator *g, uint64_t index)
+{
+    rng *r = &g->source;
+    unsigned n = 1 + (unsigned)index % (STATIONS - 1);
+    unsigned side = index / (STATIONS - 1) % 2 == 0 ? READ_SIDE : WRITE_SIDE;
+    uint8_t config[CONFIGURATION];
+
+    begin(g, n, 1);
+    for (unsigned place = 1; place < PLACES; place++) {
+        memset(config, 0, sizeof config);
+        configuration_set_to(config, READ_SIDE, 1);
+        configuration_set_to(config, WRITE_SIDE, 1);
+        for (unsigned other = 1; other <= place; other++) {
+            configuration_set_to(config, side + other, 1);
+        }
+        configuration_set_to(config, side + place, 1u << (n + rng_below(r, STATIONS - n)) | 1);
+        configuration_everywhere(g, config);
+        configuration_set_to(config, side + place, 1);
+        configuration_set_to(config, side + place - 1, 0);
+        configuration_everywhere(g, config);
+    }
+}
+
+/* Tables of an older library: every copy has another spelling of one
+ * configuration, and so has a target. Rounds of each kind by them, and all that
+ * can be asked; then a change, from which on copies have a standard form. */
+static void older_spellings(generator *g, uint64_t index)
+{
+    rng *r = &g->source;
+    unsigned n = 1 + (unsigned)index % STATIONS;
+    sheet how = (sheet)(index / STATIONS % SPELLINGS);
+    uint8_t standard[CONFIGURATION];
+
+    begin_copies(g, n);
+    draw_standard(r, n, standard);
+    for (unsigned station = 0; station < n; station++) {
+        spell(r, n, standard, how, scene_copy(0, station) + CONFIGURATION_IN);
+    }
+    look_at_copies(g);
+    set_scene(g);
+    poll_each_place(g, n);
+    spell(r, n, standard, ANY_SPELLING, g->config);
+    change_round(g, n, 0, g->config);
+    poll_each_place(g, n);
+    read_round(g, n, 0);
+}
+
 /* ---- Stations not linked since the lay ---- */
 
 /* Lists on a table of every n and some m, with rounds of one kind. */
@@ -1203,6 +1371,9 @@ static const group GROUPS[] = {
     {every_figure, (uint64_t)3 * STATIONS},
     {any_order, (uint64_t)20 * STATIONS},
     {heard_and_lost, (uint64_t)20 * (STATIONS - 2)},
+    {two_sheets, (uint64_t)8 * SPELLINGS * STATIONS},
+    {false_sheets, (uint64_t)4 * (STATIONS - 1)},
+    {older_spellings, (uint64_t)4 * SPELLINGS * STATIONS},
     {first_links, LAID_LISTS},
     {late_links, LAID_LISTS},
     {laid_again, LAID_LISTS},

@@ -1,6 +1,7 @@
 #include "draw.h"
 
 #include "configurations.h"
+#include "reference.h"
 
 #include <string.h>
 
@@ -65,10 +66,31 @@ static void swap_sides(rng *r, uint8_t *config)
     }
 }
 
+/* As it is in some cases, else another spelling that names these stations too, or
+ * the standard form. */
+static void draw_spelling(rng *r, unsigned stations, uint8_t *config)
+{
+    uint8_t given[OSPREYSCREEN_CONFIGURATION_LENGTH];
+
+    switch (rng_below(r, 5)) {
+    case 0:
+        memcpy(given, config, sizeof given);
+        ref_standard_form(OSPREYSCREEN_STATIONS_MAX, given, sizeof given, config, sizeof given);
+        break;
+    case 1:
+    case 2:
+        configuration_respell(r, stations, config);
+        break;
+    default:
+        break;
+    }
+}
+
 void draw_among(rng *r, unsigned stations, uint8_t *config)
 {
     configuration_among(r, stations, config);
     swap_sides(r, config);
+    draw_spelling(r, stations, config);
 }
 
 void draw_configuration(rng *r, unsigned n, uint8_t *config)
@@ -79,6 +101,7 @@ void draw_configuration(rng *r, unsigned n, uint8_t *config)
     case 0:
         configuration_majorities(r, n, config);
         swap_sides(r, config);
+        draw_spelling(r, all, config);
         break;
     case 1:
         draw_among(r, all, config);

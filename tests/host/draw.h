@@ -22,7 +22,8 @@ void draw_size(rng *r, unsigned *n, unsigned *m);
 /* A part of the stations that is not empty. */
 unsigned draw_some(rng *r, unsigned stations);
 
-/* A valid configuration for n stations, or among these stations. */
+/* A valid configuration for n stations, or among these stations, in any
+ * spelling. */
 void draw_configuration(rng *r, unsigned n, uint8_t *config);
 void draw_among(rng *r, unsigned stations, uint8_t *config);
 

@@ -257,7 +257,7 @@ const char *form_wrong(const implementation *with, const spelling *s, const uint
         return "the form is not its own form";
     }
     memcpy(other, s->config, sizeof other);
-    configuration_respell(r, n, other);
+    configuration_respell(r, all_stations(n), other);
     if (!compares(with, s, form, other, false, counts)) {
         return "another spelling has another form";
     }

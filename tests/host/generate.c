@@ -474,6 +474,18 @@ static void tie(generator *g)
     set_table(g, &b);
 }
 
+/* Every configuration in another spelling; the table stays sound. */
+static void respell(generator *g)
+{
+    by_hand b;
+
+    take_table(g, &b);
+    if (ref_broken(b.bytes, b.len) == 0 && rng_one_in(&g->source, 8)) {
+        damage_spelling(&g->source, b.bytes, b.len);
+        set_table(g, &b);
+    }
+}
+
 /* A number that the next one or two raises take over the end of one to eight
  * bytes, or to the end of all. */
 static uint64_t near_an_end(rng *r)
@@ -506,13 +518,21 @@ static void raise_a_counter(generator *g)
 
 /* ---- Lists ---- */
 
-typedef enum { UNDISTURBED, RAISED, DAMAGED, TIED, WRONG_LENGTH, WRONG_SIZE } disturbance;
+typedef enum {
+    UNDISTURBED,
+    RAISED,
+    DAMAGED,
+    TIED,
+    RESPELLED,
+    WRONG_LENGTH,
+    WRONG_SIZE
+} disturbance;
 
 static disturbance choose_disturbance(rng *r)
 {
     static const disturbance one_of[20] = {
-        UNDISTURBED, UNDISTURBED, UNDISTURBED, UNDISTURBED, UNDISTURBED, UNDISTURBED, UNDISTURBED,
-        RAISED,      RAISED,      RAISED,      DAMAGED,     DAMAGED,     DAMAGED,     DAMAGED,
+        UNDISTURBED, UNDISTURBED, UNDISTURBED, UNDISTURBED,  UNDISTURBED,  UNDISTURBED, RESPELLED,
+        RAISED,      RAISED,      RAISED,      DAMAGED,      DAMAGED,      DAMAGED,     DAMAGED,
         TIED,        TIED,        TIED,        WRONG_LENGTH, WRONG_LENGTH, WRONG_SIZE};
     return one_of[rng_below(r, 20)];
 }
@@ -528,6 +548,9 @@ static void disturb(generator *g, disturbance how, unsigned n, unsigned m)
         break;
     case TIED:
         tie(g);
+        break;
+    case RESPELLED:
+        respell(g);
         break;
     default:
         break;

@@ -4,8 +4,8 @@
  * Most calls take the open round a step towards its commit; drops, returns,
  * abandoned rounds, changes that move the quorums away, stations that leave
  * with what they alone know and calls with arguments out of range come
- * between. Some lists have their tables damaged, tied or raised by hand on the
- * way.
+ * between. Some lists have their tables damaged, tied, respelled or raised by
+ * hand on the way.
  */
 #ifndef GENERATE_H
 #define GENERATE_H

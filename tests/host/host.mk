@@ -89,7 +89,7 @@ EXAMPLES := examples/first_reading examples/season examples/votes
 
 LISTS := calls.o configurations.o damage.o draw.o generate.o guard.o lists.o outlook.o recorder.o reference.o runs.o
 DIFFERENTIAL := differential.o attempt.o book.o diagnose.o directed.o optimised.o options.o plan.o reach.o season.o \
-    tally.o trial.o watch.o $(LISTS)
+    spelling.o tally.o trial.o watch.o $(LISTS)
 VOTES_TRIAL := votes_trial.o calls.o configurations.o guard.o optimised.o optimised_votes.o searched_votes.o \
     options.o meters.o ref_votes.o votes_cases.o votes_opinion.o votes_tally.o watch.o writers.o
 FORM_TRIAL := form_trial.o calls.o configurations.o draw.o form_cases.o form_opinion.o form_tally.o guard.o \

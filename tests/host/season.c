@@ -607,8 +607,8 @@ static unsigned choose_group(rng *r, const outlook *o, const uint8_t *old)
     return away != 0 ? draw_some(r, away) : all;
 }
 
-/* A sheet for an item. The one found at the last visit is false if nobody came
- * before, or may be if the house has other stations now. */
+/* A sheet for an item, some in another spelling. The one found at the last visit
+ * is false if nobody came before, or may be if the house has other stations now. */
 static void draw_sheet(season *s, const outlook *o, unsigned item, uint8_t *sheet)
 {
     rng *r = s->r;
@@ -632,6 +632,9 @@ static void draw_sheet(season *s, const outlook *o, unsigned item, uint8_t *shee
     default:
         draw_among(r, group, sheet);
         break;
+    }
+    if (rng_one_in(r, 3)) {
+        configuration_respell(r, all_stations(o->n), sheet);
     }
     memcpy(s->sheets[item], old, OSPREYSCREEN_CONFIGURATION_LENGTH);
 }

@@ -64,6 +64,15 @@ static const meter_row METERS[MET_COUNT] = {
     [MET_PLAN_BOOK] = {"planned reads compared with the book, and plans with the reach", LISTS},
     [MET_PLAN_SPENT_VERSION] = {"planned writes with the version spent", BY_HAND},
     [MET_PLAN_SPENT_GENERATION] = {"planned changes with the generation spent", BY_HAND},
+    [MET_LAY_RESPELLED] = {"lays that store another spelling than is given", ALL},
+    [MET_OPENING_RESPELLED] = {"changes opened that store another spelling than is given", ALL},
+    [MET_STANDARD_GIVEN] = {"lays and changes opened with a standard form", ALL},
+    [MET_OLD_FOUND] = {"commits that go by an older spelling", BY_HAND},
+    [MET_OLD_STORED] = {"commits that store an older spelling", BY_HAND},
+    [MET_OLD_PLACE] = {"polls that show another read place than the standard form has", BY_HAND},
+    [MET_RESPELLED_CALL] = {"lays and changes opened, held to another spelling", LISTS},
+    [MET_RESPELLED_TABLE] = {"calls held to the same on the table in another spelling", LISTS},
+    [MET_RESPELLED_PLACE] = {"of these polls and diagnoses with another read place", LISTS},
     [MET_DISJOINT_MOVE] = {"changes to disjoint stations", ALL},
     [MET_MISSING_MOVE] = {"changes where every old write set misses every new read set", ALL},
     [MET_STALE_POLL] = {"polls of a copy older than one polled before", ALL},
@@ -148,6 +157,41 @@ static void look_at_ties(sight *s, const outlook *o, const call *c)
     }
 }
 
+/* The standard form of a valid configuration of n stations. */
+static void standard_form_of(const uint8_t *config, unsigned n, uint8_t standard[CONFIGURATION])
+{
+    ref_standard_form(n, config, CONFIGURATION, standard, CONFIGURATION);
+}
+
+static bool is_standard(const uint8_t *config, unsigned n)
+{
+    uint8_t standard[CONFIGURATION] = {0};
+    standard_form_of(config, n, standard);
+    return memcmp(standard, config, CONFIGURATION) == 0;
+}
+
+/* What a lay or an opening of a change is given for n stations. */
+static void look_at_spelling(sight *s, const call *c, uint64_t n, meter respelled)
+{
+    bool valid = c->config_len == CONFIGURATION && n >= 1 && n <= OSPREYSCREEN_STATIONS_MAX &&
+                 ref_false(c->config, n) == 0;
+    bool standard = valid && is_standard(c->config, (unsigned)n);
+    s->met[MET_STANDARD_GIVEN] = standard;
+    s->met[respelled] = valid && !standard;
+}
+
+/* One plus the first place of the read side that the stations hold, or 0. */
+static unsigned first_held(const uint8_t *config, unsigned stations)
+{
+    side_sets reads = configuration_sets(config, READ_SIDE);
+    for (unsigned place = 0; place < reads.count; place++) {
+        if ((reads.sets[place] & ~stations) == 0) {
+            return place + 1;
+        }
+    }
+    return 0;
+}
+
 /* What a commit lacks, and where a change moves the quorums. */
 static void look_at_commit(sight *s, const outlook *o)
 {
@@ -162,6 +206,8 @@ static void look_at_commit(sight *s, const outlook *o)
     s->met[MET_DISJOINT_MOVE] =
         change && (configuration_stations(found) & configuration_stations(o->target)) == 0;
     s->met[MET_MISSING_MOVE] = change && configuration_misses(found, o->target);
+    s->met[MET_OLD_FOUND] = !s->covered && !is_standard(found, o->n);
+    s->met[MET_OLD_STORED] = !s->covered && change && !is_standard(o->target, o->n);
 }
 
 /* A copy that is older than one polled before. */
@@ -181,6 +227,20 @@ static unsigned station_named(const outlook *o, const call *c)
 {
     uint64_t station = c->numbers[ARGUMENT_STATION];
     return station < o->n ? 1u << station : 0;
+}
+
+/* A copy that is older than one polled before, and a place of an older spelling. */
+static void look_at_poll(sight *s, const outlook *o, const call *c)
+{
+    unsigned polled = o->polled | station_named(o, c);
+    const uint8_t *found = outlook_configuration(o, o->item, polled);
+    uint8_t standard[CONFIGURATION] = {0};
+
+    s->met[MET_STALE_POLL] = stale(o, c);
+    if (!s->covered && found != NULL) {
+        standard_form_of(found, o->n, standard);
+        s->met[MET_OLD_PLACE] = first_held(found, polled) != first_held(standard, polled);
+    }
 }
 
 static void look_at_link(sight *s, const outlook *o, const call *c)
@@ -301,6 +361,9 @@ sight tally_look(const tally *t, const call *c, const loan *table, bool covered)
     outlook o;
 
     s.broken = covered ? 0 : ref_broken(table->bytes, table->len);
+    if (c->code == OSPREYSCREEN_LAY) {
+        look_at_spelling(&s, c, c->numbers[ARGUMENT_N], MET_LAY_RESPELLED);
+    }
     if (!outlook_read(&o, table->bytes, table->len)) {
         return s;
     }
@@ -311,7 +374,10 @@ sight tally_look(const tally *t, const call *c, const loan *table, bool covered)
     }
     switch (c->code) {
     case OSPREYSCREEN_POLL:
-        s.met[MET_STALE_POLL] = stale(&o, c);
+        look_at_poll(&s, &o, c);
+        break;
+    case OSPREYSCREEN_OPEN_CHANGE:
+        look_at_spelling(&s, c, o.n, MET_OPENING_RESPELLED);
         break;
     case OSPREYSCREEN_COMMIT:
         look_at_commit(&s, &o);

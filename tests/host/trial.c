@@ -3,6 +3,7 @@
 #include "diagnose.h"
 #include "plan.h"
 #include "reach.h"
+#include "spelling.h"
 #include "watch.h"
 
 #include <inttypes.h>
@@ -160,12 +161,25 @@ static const char *compare_call(trial *t, const step *s, tally *counts)
     return NULL;
 }
 
-/* One call: compared, held to the book, and a reach, a diagnose or a plan to
- * what it says. */
+/* Holds a call to the same in other spellings, where its table was kept. */
+static const char *hold_spelling(const trial *t, const call *c, const table_before *kept,
+                                 tally *counts)
+{
+    spelled said = {.made = c,
+                    .before = kept,
+                    .after = &t->tested.lent[LENT_TABLE],
+                    .reply = &t->got};
+    return spelling_hold(t->tested.with, &said, counts);
+}
+
+/* One call: compared, held to the book, a reach, a diagnose or a plan to what it
+ * says, and some calls to the same in other spellings. */
 static const char *make_call(trial *t, const step *s, tally *counts)
 {
     const call *c = &s->made;
     ospreyscreen_reply told = {0};
+    table_before kept;
+    bool keeps = spelling_keep(&kept, c, &t->tested.lent[LENT_TABLE]);
 
     if (c->code == OSPREYSCREEN_COMMIT) {
         told = ask(t);
@@ -181,7 +195,10 @@ static const char *make_call(trial *t, const step *s, tally *counts)
     if (wrong == NULL) {
         wrong = hold_reach(t, c, counts);
     }
-    return wrong == NULL ? hold_plan(t, c, counts) : wrong;
+    if (wrong == NULL) {
+        wrong = hold_plan(t, c, counts);
+    }
+    return wrong == NULL && keeps ? hold_spelling(t, c, &kept, counts) : wrong;
 }
 
 /* Does to both tables what the step says. */

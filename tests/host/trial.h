@@ -2,8 +2,9 @@
  * A trial: a list run on an implementation and on the reference side by side.
  * After every call the replies and every lent byte that binds are compared,
  * the guards are looked at, a finished round is held to the book of one copy,
- * and a reach, a diagnose and a plan to the rounds that they speak of (reach.h,
- * diagnose.h, plan.h). A list that fails is shrunk.
+ * a reach, a diagnose and a plan to the rounds that they speak of (reach.h,
+ * diagnose.h, plan.h), and some calls to the same in other spellings
+ * (spelling.h). A list that fails is shrunk.
  *
  * The book covers a list from a lay that replies 0 on, until bytes are set by
  * hand. Raised counters do not end the cover: one number is added to the
