@@ -5,6 +5,7 @@
 #                     (SCRIPT=file for another file of frames)
 #   make example      builds examples/first_reading.c and examples/season.c with the library and runs them
 #   make votes        an installer's sheet as a configuration (VOTES="2 1 1 1 1" READ=3 WRITE=4 for another)
+#   make standard-form  two sheets compared by their standard forms (N=3, ONE and OTHER of 64 digits for others)
 #   make stack        the library's largest stack frame and its deepest chain of calls
 #   make install      the library, the header and a pkg-config file, below PREFIX (and DESTDIR)
 #   make uninstall    removes these three files
@@ -28,6 +29,9 @@ SCRIPT := examples/first-reading.hex
 VOTES := 2 1 1 1 1
 READ := 3
 WRITE := 4
+N := 3
+ONE := 0600070005000300060000000000000005000600030000000000000000000000
+OTHER := 0300050006000000000000000000000003000500060007000000000000000000
 # The header has the version; here it is put together for pkg-config.
 VERSION := $(shell awk '$$2 ~ /^OSPREYSCREEN_VERSION_(MAJOR|MINOR|PATCH)$$/ { printf dot $$3; dot = "." }' \
     include/ospreyscreen.h)
@@ -37,6 +41,7 @@ HEADER := build/ospreyscreen.h
 RUNNER := build/frame_runner
 EXAMPLES := build/first_reading build/season
 VOTES_EXAMPLE := build/votes
+FORM_EXAMPLE := build/standard_form
 HOST_TESTS := test-host test-faults test-machine soak season bench
 SOURCES := crates.txt $(shell find crates -name '*.rt' -o -name '*.antt')
 
@@ -48,7 +53,8 @@ quote = '$(subst ','\'',$(1))'
 LOCK := build/rt.lock
 .NOTPARALLEL:
 .DELETE_ON_ERROR:
-.PHONY: lib run example votes stack install uninstall test $(HOST_TESTS) clean help $(EXAMPLES) $(VOTES_EXAMPLE)
+.PHONY: lib run example votes standard-form stack install uninstall test $(HOST_TESTS) clean help $(EXAMPLES) \
+    $(VOTES_EXAMPLE) $(FORM_EXAMPLE)
 
 lib: $(LIB) $(HEADER)
 
@@ -72,7 +78,7 @@ run: $(RUNNER)
 	@status=$$(cat build/run.status) && exit $$status
 
 # Small enough to be built each time, with the compiler and the flags of this time.
-$(EXAMPLES) $(VOTES_EXAMPLE): build/%: examples/%.c $(LIB) $(HEADER)
+$(EXAMPLES) $(VOTES_EXAMPLE) $(FORM_EXAMPLE): build/%: examples/%.c $(LIB) $(HEADER)
 	$(CC) -std=c11 -Wall -Wextra -Ibuild $(CPPFLAGS) $(CFLAGS) $(LDFLAGS) $< $(LIB) $(LDLIBS) -o $@
 
 example: $(EXAMPLES)
@@ -81,6 +87,9 @@ example: $(EXAMPLES)
 
 votes: $(VOTES_EXAMPLE)
 	@$(VOTES_EXAMPLE) $(call quote,$(VOTES)) $(call quote,$(READ)) $(call quote,$(WRITE))
+
+standard-form: $(FORM_EXAMPLE)
+	@$(FORM_EXAMPLE) $(call quote,$(N)) $(call quote,$(ONE)) $(call quote,$(OTHER))
 
 stack: $(LIB)
 	tools/stack $(LIB)

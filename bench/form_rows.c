@@ -73,7 +73,7 @@ static void three_pairs(rng *r, unsigned n, uint8_t *config)
 static void any_spelling(rng *r, unsigned n, uint8_t *config)
 {
     configuration_among(r, all_stations(n), config);
-    configuration_respell(r, n, config);
+    configuration_respell(r, all_stations(n), config);
 }
 
 /* The same with a read set that misses a write set. */

@@ -85,7 +85,7 @@ THE_RUNNER := $(call quote,$(or $(RUNNER),$(BIN)/plain/runner))
 PROGRAMS := differential votes_trial form_trial runner ref_runner random_frames print_calls cuts bench clean_frames \
     throughput format_dump
 CHECKED_PROGRAMS := differential votes_trial form_trial runner ref_runner
-EXAMPLES := examples/first_reading examples/season examples/votes
+EXAMPLES := examples/first_reading examples/season examples/votes examples/standard_form
 
 LISTS := calls.o configurations.o damage.o draw.o generate.o guard.o lists.o outlook.o recorder.o reference.o runs.o
 DIFFERENTIAL := differential.o attempt.o book.o diagnose.o directed.o optimised.o options.o plan.o reach.o season.o \
@@ -110,6 +110,7 @@ OBJECTS_throughput := throughput.o
 OBJECTS_examples/first_reading := examples/first_reading.o $(LIBRARY)
 OBJECTS_examples/season := examples/season.o $(LIBRARY)
 OBJECTS_examples/votes := examples/votes.o $(LIBRARY)
+OBJECTS_examples/standard_form := examples/standard_form.o $(LIBRARY)
 
 PLAIN := $(PROGRAMS:%=$(BIN)/plain/%) $(EXAMPLES:%=$(BIN)/plain/%)
 CHECKED := $(CHECKED_PROGRAMS:%=$(BIN)/checked/%) $(EXAMPLES:%=$(BIN)/checked/%)
@@ -255,15 +256,17 @@ test-tool: $(BIN)/plain/print_calls $(if $(RUNNER),,$(BIN)/plain/runner)
 test-make:
 	python3 tests/host/test_make.py
 
-# What each example prints stands beside it: as C, with the sanitizers, as C++ of two standards. That of votes is given
-# words, which the others do not read.
+# What each example prints stands beside it: as C, with the sanitizers, as C++ of two standards. Two are given words.
 EXAMPLE_PROGRAMS := $(EXAMPLES:%=$(BIN)/plain/%) $(EXAMPLES:%=$(BIN)/checked/%) $(CXX_EXAMPLES)
+WORDS_votes := '2 1 1 1 1' 3 4
+WORDS_standard_form := 3 0600070005000300060000000000000005000600030000000000000000000000 \
+    0300050006000000000000000000000003000500060007000000000000000000
+EXAMPLE_PRINTS = $(1) $(WORDS_$(notdir $(1))) > $(BIN)/example.out && \
+    cmp $(BIN)/example.out examples/$(notdir $(1)).expected
 test-example: $(EXAMPLE_PROGRAMS) $(if $(RUNNER),,$(BIN)/plain/runner)
-	for program in $(EXAMPLE_PROGRAMS); do \
-	    $$program '2 1 1 1 1' 3 4 > $(BIN)/example.out && \
-	    cmp $(BIN)/example.out examples/$$(basename $$program).expected || exit 1; \
-	done
+	$(foreach program,$(EXAMPLE_PROGRAMS),$(call EXAMPLE_PRINTS,$(program)) && ) true
 	python3 tests/host/test_votes_example.py $(BIN)/checked/examples/votes $(THE_RUNNER)
+	python3 tests/host/test_form_example.py $(BIN)/checked/examples/standard_form
 
 # The README's C snippet, as C and as C++.
 SNIPPET := $(BIN)/snippet

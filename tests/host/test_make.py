@@ -22,7 +22,7 @@ NEEDED = ["Makefile", "README.md", "crates.txt", "ospreyscreen.pc.in", ".ci", "b
 HOST = ["-f", "tests/host/host.mk"]
 CC = shlex.split(os.environ.get("CC", "gcc"))
 
-HERE = ["lib", "run", "example", "votes", "stack", "install", "uninstall", "test", "clean", "help"]
+HERE = ["lib", "run", "example", "votes", "standard-form", "stack", "install", "uninstall", "test", "clean", "help"]
 FORWARDED = ["test-host", "test-faults", "test-machine", "soak", "season", "bench"]
 
 RT = """#!/bin/sh
@@ -153,25 +153,31 @@ class Run(MakeTest):
         self.assertNotIn(REPLY, text)
 
 
-class Votes(MakeTest):
-    """make votes with a compiler whose programs print their words."""
+class Words(MakeTest):
+    """The examples that are given words, with a compiler whose programs print them."""
 
-    def votes(self, *given, status=0, **environment):
+    def words(self, target, *given, status=0, **environment):
         program = '#!/bin/sh\nprintf "<%s>" "$@"\n[ "$1" != refused ] || exit 1\n'
         write_script(self.fakes / "program", program)
         compiler = '#!/bin/sh\nwhile [ "$1" != -o ]; do shift; done\ncp "$FAKES/program" "$2"\n'
         write_script(self.fakes / "mycc", compiler)
-        return self.make("votes", "CC=mycc", *given, status=status, **environment)
+        return self.make(target, "CC=mycc", *given, status=status, **environment)
 
-    def test_sheet(self):
-        self.assertIn("<2 1 1 1 1><3><4>", self.votes())
-        self.assertIn("<1 it's><a b><>", self.votes("VOTES=1 it's", "READ=a b", "WRITE="))
+    def test_votes(self):
+        self.assertIn("<2 1 1 1 1><3><4>", self.words("votes"))
+        self.assertIn("<1 it's><a b><>", self.words("votes", "VOTES=1 it's", "READ=a b", "WRITE="))
 
-    def test_sheet_of_the_environment_is_not_ours(self):
-        self.assertIn("<2 1 1 1 1><3><4>", self.votes(VOTES="9", READ="9", WRITE="9"))
+    def test_standard_form(self):
+        self.assertRegex(self.words("standard-form"), r"<3><[0-9A-F]{64}><[0-9A-F]{64}>")
+        self.assertIn("<it's><a b><>", self.words("standard-form", "N=it's", "ONE=a b", "OTHER="))
+
+    def test_words_of_the_environment_are_not_ours(self):
+        self.assertIn("<2 1 1 1 1><3><4>", self.words("votes", VOTES="9", READ="9", WRITE="9"))
+        self.assertIn("<3><0", self.words("standard-form", N="9", ONE="9", OTHER="9"))
 
     def test_refused(self):
-        self.votes("VOTES=refused", status=2)
+        self.words("votes", "VOTES=refused", status=2)
+        self.words("standard-form", "N=refused", status=2)
 
 
 class Rt(MakeTest):
