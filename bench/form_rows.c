@@ -104,8 +104,7 @@ static const form_row ROWS[] = {
     {"16 stations", "sets apart", 16, apart, OSPREYSCREEN_FALSE_CONFIGURATION},
 };
 
-/* A row, with many spellings of its shape, each side in turn: with few of them
- * the processor learns every branch. */
+/* A row, with many spellings of its shape. */
 typedef struct {
     const form_row *row;
     form_function *sides[SIDES];
@@ -113,30 +112,20 @@ typedef struct {
     uint8_t spellings[SPELLINGS][LENGTH];
 } scene;
 
-FOR_EACH_SIDE double batch_of(unsigned side, scene *s, unsigned runs)
+FOR_EACH_SIDE uint64_t run(unsigned side, const void *at, unsigned input)
 {
-    form_function *form = s->sides[side];
-    unsigned next = s->next[side];
+    const scene *s = at;
+    const uint8_t *config = s->spellings[input % SPELLINGS];
     uint8_t out[LENGTH];
-    uint64_t wrong = 0;
-    double start = now_ns();
-
-    for (unsigned end = next + runs; next != end; next++) {
-        const uint8_t *config = s->spellings[next % SPELLINGS];
-        wrong |= s->row->number ^ form(s->row->n, config, LENGTH, out, LENGTH).number;
-    }
-    double time = now_ns() - start;
-    s->next[side] = next;
-    if (wrong != 0) {
-        give_up("gives another number", s->row->name);
-    }
-    return time / runs;
+    return s->row->number ^ s->sides[side](s->row->n, config, LENGTH, out, LENGTH).number;
 }
 
 static double batch(unsigned side, void *at, unsigned runs)
 {
-    return side == LIBRARY_SIDE ? batch_of(LIBRARY_SIDE, at, runs)
-                                : batch_of(OPTIMISED_SIDE, at, runs);
+    scene *s = at;
+    return side == LIBRARY_SIDE
+               ? runs_in_turn(LIBRARY_SIDE, run, s, &s->next[side], runs, s->row->name)
+               : runs_in_turn(OPTIMISED_SIDE, run, s, &s->next[side], runs, s->row->name);
 }
 
 void print_form_rows(unsigned samples, summary *sum)

@@ -5,6 +5,8 @@
 #ifndef TIMES_H
 #define TIMES_H
 
+#include <stdint.h>
+
 enum { SAMPLES_MOST = 10001 };
 
 /* The two that are timed. */
@@ -39,6 +41,29 @@ typedef struct {
 _Noreturn void give_up(const char *what, const char *name);
 
 double now_ns(void);
+
+/* One run of a side on input so-and-so of the scene; gives 0 if its number is the
+ * one that is expected. */
+typedef uint64_t run_on_input(unsigned side, const void *scene, unsigned input);
+
+/* A batch of runs, each on the next of many inputs: with few of them the processor
+ * learns every branch. Gives the mean time of a run. */
+FOR_EACH_SIDE double runs_in_turn(unsigned side, run_on_input *run, const void *scene,
+                                  unsigned *next, unsigned runs, const char *name)
+{
+    unsigned input = *next;
+    uint64_t wrong = 0;
+    double start = now_ns();
+
+    for (*next += runs; input != *next; input++) {
+        wrong |= run(side, scene, input);
+    }
+    double time = now_ns() - start;
+    if (wrong != 0) {
+        give_up("gives another number", name);
+    }
+    return time / runs;
+}
 
 /* Times both sides in turn, so many batches each. */
 void measure(batch_function *batch, void *scene, unsigned samples, timing out[SIDES]);

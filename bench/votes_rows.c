@@ -36,8 +36,7 @@ static const votes_row ROWS[] = {
      54, OSPREYSCREEN_DONE},
 };
 
-/* A row, with its votes given out to the stations in many ways, each side in
- * turn: with few of them the processor learns every branch. */
+/* A row, with its votes given out to the stations in many ways. */
 typedef struct {
     const votes_row *row;
     votes_function *sides[SIDES];
@@ -66,31 +65,21 @@ static void set_scene(scene *s, const votes_row *row)
     }
 }
 
-FOR_EACH_SIDE double batch_of(unsigned side, scene *s, unsigned runs)
+FOR_EACH_SIDE uint64_t run(unsigned side, const void *at, unsigned input)
 {
+    const scene *s = at;
     const votes_row *row = s->row;
-    votes_function *votes_of = s->sides[side];
     uint8_t out[OSPREYSCREEN_CONFIGURATION_LENGTH];
-    uint64_t wrong = 0;
-
-    double start = now_ns();
-    for (unsigned i = 0; i < runs; i++) {
-        const uint8_t *votes = s->orders[(s->next[side] + i) % ORDERS];
-        wrong |= row->number ^
-                 votes_of(votes, STATIONS, row->read, row->write, out, sizeof out).number;
-    }
-    double time = now_ns() - start;
-    s->next[side] += runs;
-    if (wrong != 0) {
-        give_up("gives another number", row->name);
-    }
-    return time / runs;
+    return row->number ^ s->sides[side](s->orders[input % ORDERS], STATIONS, row->read, row->write,
+                                        out, sizeof out).number;
 }
 
 static double batch(unsigned side, void *at, unsigned runs)
 {
-    return side == LIBRARY_SIDE ? batch_of(LIBRARY_SIDE, at, runs)
-                                : batch_of(OPTIMISED_SIDE, at, runs);
+    scene *s = at;
+    return side == LIBRARY_SIDE
+               ? runs_in_turn(LIBRARY_SIDE, run, s, &s->next[side], runs, s->row->name)
+               : runs_in_turn(OPTIMISED_SIDE, run, s, &s->next[side], runs, s->row->name);
 }
 
 void print_votes_rows(unsigned samples, summary *sum)

@@ -222,6 +222,17 @@ bool configuration_holds(const uint8_t *config, unsigned side, unsigned stations
     return sets_hold(&s, stations);
 }
 
+unsigned configuration_read_figure(const uint8_t *config, unsigned stations)
+{
+    side_sets reads = configuration_sets(config, READ_SIDE);
+    for (unsigned place = 0; place < reads.count; place++) {
+        if ((reads.sets[place] & ~stations) == 0) {
+            return place + 1;
+        }
+    }
+    return 0;
+}
+
 unsigned configuration_write_set(const uint8_t *config, unsigned choice)
 {
     unsigned used = used_places(config, WRITE_SIDE);

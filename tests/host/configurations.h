@@ -46,6 +46,9 @@ bool sets_hold(const side_sets *s, unsigned stations);
 /* Whether the stations hold a used set of the side. */
 bool configuration_holds(const uint8_t *config, unsigned side, unsigned stations);
 
+/* One plus the first read place that the stations hold, or 0. */
+unsigned configuration_read_figure(const uint8_t *config, unsigned stations);
+
 /* The used write set of the configuration that the choice falls on. */
 unsigned configuration_write_set(const uint8_t *config, unsigned choice);
 

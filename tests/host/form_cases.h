@@ -14,13 +14,10 @@ typedef struct {
     bool null;
 } spelling;
 
-/* Does something with a spelling; gives whether there are to be more. */
-typedef bool spelling_user(void *with, const spelling *s);
-
 /* All small configurations, and what random ones meet seldom. */
-bool form_directed(spelling_user *use, void *with);
+bool form_directed(case_user *use, void *with);
 
-/* A spelling of any shape; its bytes stay until the next one. */
-spelling form_random(rng *r);
+/* A spelling of any shape; it stays until the next one. */
+const void *form_random(rng *r);
 
 #endif

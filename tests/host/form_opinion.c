@@ -180,18 +180,6 @@ static bool stores(const house *h, const uint8_t *form, bool target)
     return true;
 }
 
-/* One plus the first place of the read side that the stations hold, or 0. */
-static uint64_t figure_of(const uint8_t *config, unsigned stations)
-{
-    side_sets reads = configuration_sets(config, READ_SIDE);
-    for (unsigned place = 0; place < reads.count; place++) {
-        if ((reads.sets[place] & ~stations) == 0) {
-            return place + 1;
-        }
-    }
-    return 0;
-}
-
 /* Links and polls the stations in any order: each poll shows the place that the
  * form has, and a diagnose too. */
 static bool polls(const implementation *with, house *h, const spelling *s, const uint8_t *form,
@@ -204,12 +192,12 @@ static bool polls(const implementation *with, house *h, const spelling *s, const
         uint64_t linked = with->link(h->table, h->len, station, OSPREYSCREEN_LINK_ON).number;
         ospreyscreen_reply poll = with->poll(h->table, h->len, station);
         ospreyscreen_reply diagnose = with->diagnose(h->table, h->len);
-        uint64_t figure = figure_of(form, polled);
+        uint64_t figure = configuration_read_figure(form, polled);
         if (linked != OSPREYSCREEN_DONE || poll.number != OSPREYSCREEN_DONE ||
             poll.first != figure || diagnose.third != figure) {
             return false;
         }
-        counts->met[FORM_PLACES] += figure != figure_of(s->config, polled);
+        counts->met[FORM_PLACES] += figure != configuration_read_figure(s->config, polled);
     }
     return true;
 }
@@ -241,29 +229,31 @@ static const char *house_wrong(const implementation *with, const spelling *s, co
 
 /* ---- One form ---- */
 
-const char *form_wrong(const implementation *with, const spelling *s, const uint8_t *form, rng *r,
-                       form_tally *counts)
+const char *form_wrong(const implementation *with, const void *given, const uint8_t *form, rng *r,
+                       void *counts)
 {
+    const spelling *s = given;
+    form_tally *t = counts;
     unsigned n = (unsigned)s->n;
     bool every = n <= EVERY_SET || rng_one_in(r, UINT64_C(1) << (n - EVERY_SET));
     uint8_t other[CONFIGURATION];
 
-    counts->met[FORM_EVERY_SET] += every && n == OSPREYSCREEN_STATIONS_MAX;
+    t->met[FORM_EVERY_SET] += every && n == OSPREYSCREEN_STATIONS_MAX;
     if (!is_side_right(s, form, READ_SIDE, every, r) ||
         !is_side_right(s, form, WRITE_SIDE, every, r)) {
         return "the sets are not the smallest that pass, rising";
     }
-    if (!compares(with, s, form, form, false, counts)) {
+    if (!compares(with, s, form, form, false, t)) {
         return "the form is not its own form";
     }
     memcpy(other, s->config, sizeof other);
     configuration_respell(r, all_stations(n), other);
-    if (!compares(with, s, form, other, false, counts)) {
+    if (!compares(with, s, form, other, false, t)) {
         return "another spelling has another form";
     }
-    const char *wrong = rng_one_in(r, HOUSES) ? house_wrong(with, s, form, other, r, counts) : NULL;
+    const char *wrong = rng_one_in(r, HOUSES) ? house_wrong(with, s, form, other, r, t) : NULL;
     vary(r, n, other);
-    if (wrong == NULL && !compares(with, s, form, other, true, counts)) {
+    if (wrong == NULL && !compares(with, s, form, other, true, t)) {
         return "two configurations have one form, and not the same sets pass, or the other way round";
     }
     return wrong;

@@ -8,9 +8,9 @@
 
 #include "form_tally.h"
 
-/* Gives what is wrong with the form that the spelling was taken to, or a null
- * pointer; counts what it looked at. */
-const char *form_wrong(const implementation *with, const spelling *s, const uint8_t *form, rng *r,
-                       form_tally *counts);
+/* Gives what is wrong with the form that the spelling given was taken to, or a
+ * null pointer; counts what it looked at in a form_tally. */
+const char *form_wrong(const implementation *with, const void *given, const uint8_t *form, rng *r,
+                       void *counts);
 
 #endif

@@ -1,9 +1,7 @@
 #include "form_tally.h"
 
-#include "meters.h"
 #include "reference.h"
 
-#include <inttypes.h>
 #include <string.h>
 
 enum { STATIONS = OSPREYSCREEN_STATIONS_MAX, CONFIGURATION = OSPREYSCREEN_CONFIGURATION_LENGTH };
@@ -44,10 +42,6 @@ static const char *const METERS[FORM_METERS] = {
     [FORM_TABLES] = "tables laid with two spellings, and changes opened",
     [FORM_PLACES] = "polls that show another read place than the spelling has",
 };
-
-static const char DONE[] = "done, stations";
-static const char *const GIVEN[FORM_SIDES] = {"done, read sets given", "done, write sets given"};
-static const char *const KEPT[FORM_SIDES] = {"done, read sets kept", "done, write sets kept"};
 
 /* ---- Refusals ---- */
 
@@ -217,40 +211,27 @@ static void look_at_done(form_tally *t, const spelling *s, const uint8_t *out)
 
 /* ---- The tally ---- */
 
-void form_tally_call(form_tally *t, const spelling *s, uint64_t number, const uint8_t *out)
+void form_tally_call(void *counts, const void *given, uint64_t number, const uint8_t *out)
 {
+    form_tally *t = counts;
+
     t->calls++;
-    switch (number) {
-    case OSPREYSCREEN_DONE:
-        look_at_done(t, s, out);
-        break;
-    case OSPREYSCREEN_NO_SUCH_THING:
-        look_at_2(t, s);
-        break;
-    default:
-        look_at_3(t, s);
-        break;
+    if (number == OSPREYSCREEN_DONE) {
+        look_at_done(t, given, out);
+    } else if (number == OSPREYSCREEN_NO_SUCH_THING) {
+        look_at_2(t, given);
+    } else {
+        look_at_3(t, given);
     }
 }
 
-void form_tally_print(FILE *to, const form_tally *t)
+meters form_tally_counted(const void *counts)
 {
-    fprintf(to, "%9" PRIu64 "  calls\n", t->calls);
-    meters_print(to, METERS, t->met, FORM_METERS);
-    numbers_print(to, DONE, t->done, STATIONS);
-    for (int side = 0; side < FORM_SIDES; side++) {
-        numbers_print(to, GIVEN[side], t->given[side], PLACES);
-        numbers_print(to, KEPT[side], t->kept[side], PLACES);
-    }
-}
-
-bool form_tally_met_all(FILE *to, const form_tally *t)
-{
-    bool all = meters_met_all(to, METERS, t->met, FORM_METERS);
-    all &= numbers_met_all(to, DONE, t->done, STATIONS);
-    for (int side = 0; side < FORM_SIDES; side++) {
-        all &= numbers_met_all(to, GIVEN[side], t->given[side], PLACES);
-        all &= numbers_met_all(to, KEPT[side], t->kept[side], PLACES);
-    }
-    return all;
+    const form_tally *t = counts;
+    return (meters){t->calls, METERS, t->met, FORM_METERS,
+                    {{"done, stations", t->done, STATIONS},
+                     {"done, read sets given", t->given[0], PLACES},
+                     {"done, read sets kept", t->kept[0], PLACES},
+                     {"done, write sets given", t->given[1], PLACES},
+                     {"done, write sets kept", t->kept[1], PLACES}}};
 }

@@ -59,12 +59,9 @@ typedef struct {
     uint64_t kept[FORM_SIDES][1 + PLACES];        /* and how many the form has */
 } form_tally;
 
-/* Counts the call, which gave the number and wrote the output if it is 0. */
-void form_tally_call(form_tally *t, const spelling *s, uint64_t number, const uint8_t *out);
-
-void form_tally_print(FILE *to, const form_tally *t);
-
-/* Prints what was not met; gives whether all was. */
-bool form_tally_met_all(FILE *to, const form_tally *t);
+/* Counts the call with a spelling, which gave the number and wrote the output if
+ * it is 0, in a form_tally; and what stands there. */
+void form_tally_call(void *counts, const void *given, uint64_t number, const uint8_t *out);
+meters form_tally_counted(const void *counts);
 
 #endif

@@ -14,7 +14,6 @@
  */
 #include "form_opinion.h"
 #include "optimised.h"
-#include "options.h"
 #include "reference.h"
 
 #include <inttypes.h>
@@ -24,10 +23,6 @@ static const char USAGE[] =
     "form_trial [--form random|directed] [--calls N] [--seed S]\n"
     "                  [--of library|optimised|listed]\n"
     "                  [--config DIGITS [--stations N] [--out N] [--null]]";
-
-/* Implementations; the last has another standard form, and the optimised calls. */
-static const implementation LIBRARY = IMPLEMENTATION("library", ospreyscreen_);
-static const implementation OPTIMISED = IMPLEMENTATION("optimised", opt_);
 
 /* ---- Spellings as cases ---- */
 
@@ -45,26 +40,6 @@ static const void *make_form(any_function *function, const void *given, uint8_t 
     return ((form_call *)function)(reply, s->n, config, s->config_len, out, s->out_len);
 }
 
-static const char *wrong_output(writer_trial *t, const void *given, const uint8_t *out)
-{
-    return form_wrong(t->calls, given, out, &t->source, t->counts);
-}
-
-static void count_spelling(void *counts, const void *given, uint64_t number, const uint8_t *out)
-{
-    form_tally_call(counts, given, number, out);
-}
-
-static void print_counts(FILE *to, const void *counts)
-{
-    form_tally_print(to, counts);
-}
-
-static bool met_all(FILE *to, const void *counts)
-{
-    return form_tally_met_all(to, counts);
-}
-
 static void print_spelling(const void *given)
 {
     const spelling *s = given;
@@ -76,97 +51,48 @@ static void print_spelling(const void *given)
     printf("\" --stations %" PRIu64, s->n);
 }
 
-static bool spelling_passes(void *with, const spelling *s)
-{
-    return writer_passes(with, s);
-}
-
-static bool directed_spellings(writer_trial *t)
-{
-    return form_directed(spelling_passes, t);
-}
-
-static const void *random_spelling(rng *r)
-{
-    static spelling s;
-    s = form_random(r);
-    return &s;
-}
-
 static const writer FORM = {
     .cases = "spellings",
     .in_room = CONFIGURATION_ROOM,
     .lends = spelling_lends,
     .make = make_form,
-    .wrong = wrong_output,
-    .count = count_spelling,
-    .print_counts = print_counts,
-    .met_all = met_all,
+    .wrong = form_wrong,
+    .count = form_tally_call,
+    .counted = form_tally_counted,
     .print_case = print_spelling,
-    .directed = directed_spellings,
-    .random = random_spelling,
+    .directed = form_directed,
+    .random = form_random,
 };
 
 /* ---- The command line ---- */
 
-typedef struct {
-    const char *form;
-    const char *of;
-    const char *digits; /* of one spelling; a null pointer if there are to be many */
-    uint64_t calls;
-    uint64_t seed;
-    uint64_t out_len;
-    spelling one;
-} options;
-
-static options read_options(int argc, char **argv)
+/* Reads the bytes whose digits the text has; gives how many there are. */
+static size_t read_bytes(const char *digits, uint8_t bytes[CONFIGURATION_ROOM])
 {
-    options o = {.form = "random", .of = LIBRARY.name, .calls = 200000, .seed = 1,
-                 .out_len = OSPREYSCREEN_CONFIGURATION_LENGTH};
-    const option all[] = {
-        {.name = "--form", .text = &o.form},
-        {.name = "--of", .text = &o.of},
-        {.name = "--calls", .number = &o.calls, .most = UINT64_MAX},
-        {.name = "--seed", .number = &o.seed, .most = UINT64_MAX},
-        {.name = "--config", .text = &o.digits},
-        {.name = "--stations", .number = &o.one.n, .most = UINT64_MAX},
-        {.name = "--out", .number = &o.out_len, .most = OUT_ROOM},
-        {.name = "--null", .flag = &o.one.null},
-    };
-    options_read(argc, argv, USAGE, all, sizeof all / sizeof all[0]);
-    return o;
-}
-
-/* The one spelling that the options tell. */
-static const spelling *one_spelling(options *o)
-{
-    static uint8_t bytes[CONFIGURATION_ROOM];
     size_t count = 0;
-    unsigned byte;
 
-    for (const char *at = o->digits; *at != '\0'; at += 2) {
-        if (count == CONFIGURATION_ROOM || strspn(at, "0123456789ABCDEF") < 2 ||
-            sscanf(at, "%2X", &byte) != 1) {
+    for (; *digits != '\0'; digits += 2) {
+        unsigned byte;
+        if (count == CONFIGURATION_ROOM || strspn(digits, "0123456789ABCDEF") < 2 ||
+            sscanf(digits, "%2X", &byte) != 1) {
             options_give_up(USAGE);
         }
         bytes[count++] = (uint8_t)byte;
     }
-    o->one.config = bytes;
-    o->one.config_len = count;
-    o->one.out_len = o->out_len;
-    return &o->one;
+    return count;
 }
 
-static implementation library_named(const char *name)
+/* One of the implementations; that of the last name has the optimised calls, and
+ * another standard form. */
+static implementation implementation_named(const char *name)
 {
-    implementation listed = OPTIMISED;
+    implementation all[] = {IMPLEMENTATION("library", ospreyscreen_),
+                            IMPLEMENTATION("optimised", opt_), IMPLEMENTATION("listed", opt_)};
 
-    listed.name = "listed";
-    listed.standard_form = opt_standard_form_listed;
-    const implementation *const all[] = {&LIBRARY, &OPTIMISED, &listed};
+    all[2].standard_form = opt_standard_form_listed;
     for (size_t i = 0; i < sizeof all / sizeof all[0]; i++) {
-        if (strcmp(name, all[i]->name) == 0) {
-            return *all[i];
+        if (strcmp(name, all[i].name) == 0) {
+            return all[i];
         }
     }
     options_give_up(USAGE);
@@ -175,13 +101,23 @@ static implementation library_named(const char *name)
 int main(int argc, char **argv)
 {
     static form_tally counts;
-    options o = read_options(argc, argv);
-    bool directed = writer_is_directed(o.form, USAGE);
-    implementation of = library_named(o.of);
+    static uint8_t bytes[CONFIGURATION_ROOM];
+    const char *digits = NULL; /* of one spelling */
+    spelling one = {.config = bytes};
+    const option own[] = {
+        {.name = "--config", .text = &digits},
+        {.name = "--stations", .number = &one.n, .most = UINT64_MAX},
+    };
+    writer_options o = writer_read_options(argc, argv, USAGE, own, sizeof own / sizeof own[0]);
+    implementation of = implementation_named(o.of);
+    writer_trial t = writer_trial_make(&FORM, &of, (any_function *)of.standard_form,
+                                       (any_function *)ref_standard_form, &counts, &o);
 
-    setvbuf(stdout, NULL, _IOLBF, 0);
-    writer_trial t = writer_trial_make(&FORM, argv[0], &of, (any_function *)of.standard_form,
-                                       (any_function *)ref_standard_form, &counts, o.seed);
-    return o.digits != NULL ? writer_run_one(&t, one_spelling(&o))
-                            : writer_run(&t, directed, o.calls, o.seed);
+    if (digits == NULL) {
+        return writer_run(&t, &o);
+    }
+    one.config_len = read_bytes(digits, bytes);
+    one.out_len = o.out_len;
+    one.null = o.null;
+    return writer_run_one(&t, &one);
 }

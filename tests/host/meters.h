@@ -1,4 +1,4 @@
-/* Things that a run should meet, counted one by one under their names. */
+/* What a run has met: things under their names, and numbered ones. */
 #ifndef METERS_H
 #define METERS_H
 
@@ -6,14 +6,26 @@
 #include <stdint.h>
 #include <stdio.h>
 
-void meters_print(FILE *to, const char *const *names, const uint64_t *met, int count);
+/* Counts of things that are numbered, from 1 to the last. */
+typedef struct {
+    const char *name; /* in front of the number */
+    const uint64_t *met;
+    int last;
+} numbered;
+
+enum { NUMBERED_MOST = 5 };
+
+typedef struct {
+    uint64_t calls;
+    const char *const *names;
+    const uint64_t *met;
+    int count;
+    numbered rows[NUMBERED_MOST]; /* those behind the last have no name */
+} meters;
+
+void meters_print(FILE *to, const meters *m);
 
 /* Prints what was not met; gives whether all was. */
-bool meters_met_all(FILE *to, const char *const *names, const uint64_t *met, int count);
-
-/* The same for things that are numbered, from 1 to the count, as the text before
- * the number says. */
-void numbers_print(FILE *to, const char *text, const uint64_t *met, int count);
-bool numbers_met_all(FILE *to, const char *text, const uint64_t *met, int count);
+bool meters_met_all(FILE *to, const meters *m);
 
 #endif

@@ -180,18 +180,6 @@ static void look_at_spelling(sight *s, const call *c, uint64_t n, meter respelle
     s->met[respelled] = valid && !standard;
 }
 
-/* One plus the first place of the read side that the stations hold, or 0. */
-static unsigned first_held(const uint8_t *config, unsigned stations)
-{
-    side_sets reads = configuration_sets(config, READ_SIDE);
-    for (unsigned place = 0; place < reads.count; place++) {
-        if ((reads.sets[place] & ~stations) == 0) {
-            return place + 1;
-        }
-    }
-    return 0;
-}
-
 /* What a commit lacks, and where a change moves the quorums. */
 static void look_at_commit(sight *s, const outlook *o)
 {
@@ -239,7 +227,8 @@ static void look_at_poll(sight *s, const outlook *o, const call *c)
     s->met[MET_STALE_POLL] = stale(o, c);
     if (!s->covered && found != NULL) {
         standard_form_of(found, o->n, standard);
-        s->met[MET_OLD_PLACE] = first_held(found, polled) != first_held(standard, polled);
+        s->met[MET_OLD_PLACE] = configuration_read_figure(found, polled) !=
+                                configuration_read_figure(standard, polled);
     }
 }
 

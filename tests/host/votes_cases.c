@@ -16,7 +16,7 @@ static uint64_t total_of(const sheet *s)
 /* ---- Directed ---- */
 
 typedef struct {
-    sheet_user *use;
+    case_user *use;
     void *with;
 } taker;
 
@@ -173,7 +173,7 @@ static bool station_counts(const taker *to)
     return true;
 }
 
-bool votes_directed(sheet_user *use, void *with)
+bool votes_directed(case_user *use, void *with)
 {
     const taker to = {use, with};
     return small_sheets(&to) && equal_votes(&to, 1) && equal_votes(&to, UINT8_MAX) &&
@@ -304,16 +304,18 @@ static size_t draw_out_len(rng *r)
     return rng_one_in(r, 2) ? OUT - 1 + rng_below(r, 3) : rng_below(r, OUT_ROOM + 1);
 }
 
-sheet votes_random(rng *r)
+const void *votes_random(rng *r)
 {
+    static sheet s;
     shape of = (shape)rng_below(r, SHAPES);
     uint8_t own[2] = {(uint8_t)(1 + rng_below(r, 255)), (uint8_t)rng_below(r, 20)};
-    sheet s = {.votes = votes_room, .votes_len = draw_count(r), .out_len = draw_out_len(r)};
+
+    s = (sheet){.votes = votes_room, .votes_len = draw_count(r), .out_len = draw_out_len(r)};
 
     for (size_t i = 0; i < s.votes_len; i++) {
         votes_room[i] = (uint8_t)one_vote(r, of, own);
     }
     s.null = rng_one_in(r, 2);
     draw_thresholds(r, &s);
-    return s;
+    return &s;
 }

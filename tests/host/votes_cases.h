@@ -17,13 +17,10 @@ typedef struct {
     bool null;
 } sheet;
 
-/* Does something with a sheet; gives whether there are to be more. */
-typedef bool sheet_user(void *with, const sheet *s);
-
 /* All small sheets, and what random ones meet seldom. */
-bool votes_directed(sheet_user *use, void *with);
+bool votes_directed(case_user *use, void *with);
 
-/* A sheet of any shape; its votes stay until the next one. */
-sheet votes_random(rng *r);
+/* A sheet of any shape; it stays until the next one. */
+const void *votes_random(rng *r);
 
 #endif

@@ -173,9 +173,11 @@ static bool is_standard(const implementation *with, const sheet *s, const uint8_
     return reply.number == OSPREYSCREEN_DONE && memcmp(form, config, sizeof form) == 0;
 }
 
-const char *votes_wrong(const implementation *with, const sheet *s, const uint8_t *config, rng *r,
-                        votes_tally *counts)
+const char *votes_wrong(const implementation *with, const void *given, const uint8_t *config,
+                        rng *r, void *counts)
 {
+    const sheet *s = given;
+    votes_tally *t = counts;
     side_sets reads = configuration_sets(config, READ_SIDE);
     side_sets writes = configuration_sets(config, WRITE_SIDE);
     bool every = s->votes_len <= EVERY_SET || rng_one_in(r, SELDOM);
@@ -191,9 +193,7 @@ const char *votes_wrong(const implementation *with, const sheet *s, const uint8_
     }
     const char *wrong = house_wrong(with, s, config, any_of(&reads, r), any_of(&writes, r),
                                     any_of(&reads, r));
-    if (counts != NULL) {
-        counts->met[VOTES_ROUND] += wrong == NULL;
-        counts->met[VOTES_EVERY_SET] += every && s->votes_len == OSPREYSCREEN_STATIONS_MAX;
-    }
+    t->met[VOTES_ROUND] += wrong == NULL;
+    t->met[VOTES_EVERY_SET] += every && s->votes_len == OSPREYSCREEN_STATIONS_MAX;
     return wrong;
 }

@@ -9,9 +9,9 @@
 #include "calls.h"
 #include "votes_tally.h"
 
-/* Gives what is wrong with a configuration that the sheet was turned into, or
- * a null pointer; counts what it looked at if there is a tally. */
-const char *votes_wrong(const implementation *with, const sheet *s, const uint8_t *config, rng *r,
-                        votes_tally *counts);
+/* Gives what is wrong with a configuration that the sheet given was turned into,
+ * or a null pointer; counts what it looked at in a votes_tally. */
+const char *votes_wrong(const implementation *with, const void *given, const uint8_t *config,
+                        rng *r, void *counts);
 
 #endif

@@ -1,9 +1,6 @@
 #include "votes_tally.h"
 
-#include "meters.h"
 #include "ref_votes.h"
-
-#include <inttypes.h>
 
 static const char *const METERS[VOTES_METERS] = {
     [VOTES_NO_SUCH_THING] = "number 2",
@@ -40,9 +37,6 @@ static const char *const METERS[VOTES_METERS] = {
     [VOTES_ROUND] = "rounds finished with the configuration",
     [VOTES_EVERY_SET] = "configurations of 16 stations asked for every set",
 };
-
-static const char STATIONS[] = "done, stations";
-static const char *const SIDES[VOTES_SIDES] = {"done, read sets", "done, write sets"};
 
 uint64_t votes_of_set(const sheet *s, unsigned set)
 {
@@ -201,8 +195,11 @@ static void look_at_done(votes_tally *t, const sheet *s, const uint8_t *out)
 
 /* ---- The tally ---- */
 
-void votes_tally_call(votes_tally *t, const sheet *s, uint64_t number, const uint8_t *out)
+void votes_tally_call(void *counts, const void *given, uint64_t number, const uint8_t *out)
 {
+    votes_tally *t = counts;
+    const sheet *s = given;
+
     t->calls++;
     switch (number) {
     case OSPREYSCREEN_DONE:
@@ -223,22 +220,11 @@ void votes_tally_call(votes_tally *t, const sheet *s, uint64_t number, const uin
     }
 }
 
-void votes_tally_print(FILE *to, const votes_tally *t)
+meters votes_tally_counted(const void *counts)
 {
-    fprintf(to, "%9" PRIu64 "  calls\n", t->calls);
-    meters_print(to, METERS, t->met, VOTES_METERS);
-    numbers_print(to, STATIONS, t->done, OSPREYSCREEN_STATIONS_MAX);
-    for (int side = 0; side < VOTES_SIDES; side++) {
-        numbers_print(to, SIDES[side], t->sets[side], PLACES);
-    }
-}
-
-bool votes_tally_met_all(FILE *to, const votes_tally *t)
-{
-    bool all = meters_met_all(to, METERS, t->met, VOTES_METERS);
-    all &= numbers_met_all(to, STATIONS, t->done, OSPREYSCREEN_STATIONS_MAX);
-    for (int side = 0; side < VOTES_SIDES; side++) {
-        all &= numbers_met_all(to, SIDES[side], t->sets[side], PLACES);
-    }
-    return all;
+    const votes_tally *t = counts;
+    return (meters){t->calls, METERS, t->met, VOTES_METERS,
+                    {{"done, stations", t->done, OSPREYSCREEN_STATIONS_MAX},
+                     {"done, read sets", t->sets[0], PLACES},
+                     {"done, write sets", t->sets[1], PLACES}}};
 }

@@ -5,8 +5,6 @@
 #include "configurations.h"
 #include "votes_cases.h"
 
-#include <stdio.h>
-
 /* Names stand in votes_tally.c. */
 typedef enum {
     VOTES_NO_SUCH_THING,
@@ -59,13 +57,10 @@ typedef struct {
     uint64_t sets[VOTES_SIDES][1 + PLACES];       /* done, by how many sets on a side */
 } votes_tally;
 
-/* Counts the call, which gave the number and wrote the output if it is 0. */
-void votes_tally_call(votes_tally *t, const sheet *s, uint64_t number, const uint8_t *out);
-
-void votes_tally_print(FILE *to, const votes_tally *t);
-
-/* Prints what was not met; gives whether all was. */
-bool votes_tally_met_all(FILE *to, const votes_tally *t);
+/* Counts the call with a sheet, which gave the number and wrote the output if it
+ * is 0, in a votes_tally; and what stands there. */
+void votes_tally_call(void *counts, const void *given, uint64_t number, const uint8_t *out);
+meters votes_tally_counted(const void *counts);
 
 /* The votes of a set of the sheet's stations, and of all of them. */
 uint64_t votes_of_set(const sheet *s, unsigned set);

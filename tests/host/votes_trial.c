@@ -12,7 +12,6 @@
  * status is 1 if a sheet fails, and 2 if a run has not met what it should.
  */
 #include "optimised.h"
-#include "options.h"
 #include "ref_votes.h"
 #include "votes_opinion.h"
 
@@ -57,26 +56,6 @@ static const void *make_votes(any_function *function, const void *given, uint8_t
     return ((votes_call *)function)(reply, votes, s->votes_len, s->read, s->write, out, s->out_len);
 }
 
-static const char *wrong_output(writer_trial *t, const void *given, const uint8_t *out)
-{
-    return votes_wrong(t->calls, given, out, &t->source, t->counts);
-}
-
-static void count_sheet(void *counts, const void *given, uint64_t number, const uint8_t *out)
-{
-    votes_tally_call(counts, given, number, out);
-}
-
-static void print_counts(FILE *to, const void *counts)
-{
-    votes_tally_print(to, counts);
-}
-
-static bool met_all(FILE *to, const void *counts)
-{
-    return votes_tally_met_all(to, counts);
-}
-
 static void print_sheet(const void *given)
 {
     const sheet *s = given;
@@ -92,69 +71,20 @@ static void print_sheet(const void *given)
     printf("\" --stations %zu --read %" PRIu64 " --write %" PRIu64, s->votes_len, s->read, s->write);
 }
 
-static bool sheet_passes(void *with, const sheet *s)
-{
-    return writer_passes(with, s);
-}
-
-static bool directed_sheets(writer_trial *t)
-{
-    return votes_directed(sheet_passes, t);
-}
-
-static const void *random_sheet(rng *r)
-{
-    static sheet s;
-    s = votes_random(r);
-    return &s;
-}
-
 static const writer VOTES = {
     .cases = "sheets",
     .in_room = VOTES_ROOM,
     .lends = sheet_lends,
     .make = make_votes,
-    .wrong = wrong_output,
-    .count = count_sheet,
-    .print_counts = print_counts,
-    .met_all = met_all,
+    .wrong = votes_wrong,
+    .count = votes_tally_call,
+    .counted = votes_tally_counted,
     .print_case = print_sheet,
-    .directed = directed_sheets,
-    .random = random_sheet,
+    .directed = votes_directed,
+    .random = votes_random,
 };
 
 /* ---- The command line ---- */
-
-typedef struct {
-    const char *form;
-    const char *of;
-    const char *votes; /* of one sheet; a null pointer if there are to be many */
-    uint64_t calls;
-    uint64_t seed;
-    uint64_t stations;
-    uint64_t out_len;
-    sheet one;
-} options;
-
-static options read_options(int argc, char **argv)
-{
-    options o = {.form = "random", .of = LIBRARIES[0].calls.name, .calls = 200000, .seed = 1,
-                 .out_len = OSPREYSCREEN_CONFIGURATION_LENGTH};
-    const option all[] = {
-        {.name = "--form", .text = &o.form},
-        {.name = "--of", .text = &o.of},
-        {.name = "--calls", .number = &o.calls, .most = UINT64_MAX},
-        {.name = "--seed", .number = &o.seed, .most = UINT64_MAX},
-        {.name = "--votes", .text = &o.votes},
-        {.name = "--stations", .number = &o.stations, .most = VOTES_ROOM},
-        {.name = "--read", .number = &o.one.read, .most = UINT64_MAX},
-        {.name = "--write", .number = &o.one.write, .most = UINT64_MAX},
-        {.name = "--out", .number = &o.out_len, .most = OUT_ROOM},
-        {.name = "--null", .flag = &o.one.null},
-    };
-    options_read(argc, argv, USAGE, all, sizeof all / sizeof all[0]);
-    return o;
-}
 
 /* Reads the votes in the text; gives how many there are. */
 static size_t read_votes(const char *text, uint8_t votes[VOTES_ROOM])
@@ -173,18 +103,6 @@ static size_t read_votes(const char *text, uint8_t votes[VOTES_ROOM])
     return count;
 }
 
-/* The one sheet that the options tell. */
-static const sheet *one_sheet(options *o)
-{
-    static uint8_t votes[VOTES_ROOM];
-    size_t given = read_votes(o->votes, votes);
-
-    o->one.votes = votes;
-    o->one.votes_len = o->stations > given ? o->stations : given;
-    o->one.out_len = o->out_len;
-    return &o->one;
-}
-
 static const tested_library *library_named(const char *name)
 {
     size_t count = sizeof LIBRARIES / sizeof LIBRARIES[0];
@@ -199,13 +117,27 @@ static const tested_library *library_named(const char *name)
 int main(int argc, char **argv)
 {
     static votes_tally counts;
-    options o = read_options(argc, argv);
-    bool directed = writer_is_directed(o.form, USAGE);
+    static uint8_t votes[VOTES_ROOM];
+    const char *text = NULL; /* the votes of one sheet */
+    uint64_t stations = 0;
+    sheet one = {.votes = votes};
+    const option own[] = {
+        {.name = "--votes", .text = &text},
+        {.name = "--stations", .number = &stations, .most = VOTES_ROOM},
+        {.name = "--read", .number = &one.read, .most = UINT64_MAX},
+        {.name = "--write", .number = &one.write, .most = UINT64_MAX},
+    };
+    writer_options o = writer_read_options(argc, argv, USAGE, own, sizeof own / sizeof own[0]);
     const tested_library *of = library_named(o.of);
+    writer_trial t = writer_trial_make(&VOTES, &of->calls, (any_function *)of->votes,
+                                       (any_function *)ref_votes, &counts, &o);
 
-    setvbuf(stdout, NULL, _IOLBF, 0);
-    writer_trial t = writer_trial_make(&VOTES, argv[0], &of->calls, (any_function *)of->votes,
-                                       (any_function *)ref_votes, &counts, o.seed);
-    return o.votes != NULL ? writer_run_one(&t, one_sheet(&o))
-                           : writer_run(&t, directed, o.calls, o.seed);
+    if (text == NULL) {
+        return writer_run(&t, &o);
+    }
+    size_t given = read_votes(text, votes);
+    one.votes_len = stations > given ? stations : given;
+    one.out_len = o.out_len;
+    one.null = o.null;
+    return writer_run_one(&t, &one);
 }

@@ -1,6 +1,5 @@
 #include "writers.h"
 
-#include "options.h"
 #include "watch.h"
 
 #include <inttypes.h>
@@ -22,17 +21,16 @@ static party party_make(const writer *of, const char *name, any_function *functi
     };
 }
 
-writer_trial writer_trial_make(const writer *of, const char *program, const implementation *calls,
-                               any_function *tested, any_function *reference, void *counts,
-                               uint64_t seed)
+writer_trial writer_trial_make(const writer *of, const implementation *calls, any_function *tested,
+                               any_function *reference, void *counts, const writer_options *o)
 {
     return (writer_trial){
         .of = of,
-        .program = program,
+        .program = o->program,
         .calls = calls,
         .tested = party_make(of, calls->name, tested),
         .reference = party_make(of, "reference", reference),
-        .source = {seed},
+        .source = {o->seed},
         .counts = counts,
     };
 }
@@ -113,7 +111,7 @@ static void try_case(void *with)
     const uint8_t *out = guard_inside(&t->tested.out);
     uint64_t number = reply_of(&t->tested).number;
     if (number == OSPREYSCREEN_DONE) {
-        t->why = t->of->wrong(t, t->given, out);
+        t->why = t->of->wrong(t->calls, t->given, out, &t->source, t->counts);
     } else if (memcmp(out, t->before, t->lent.out_len) != 0) {
         t->why = "a refusal changed the output";
     }
@@ -143,8 +141,11 @@ static void tell_failure(const writer_trial *t)
            t->tested.name);
 }
 
-bool writer_passes(writer_trial *t, const void *given)
+/* Tries the case; tells if it fails. */
+static bool passes(void *with, const void *given)
 {
+    writer_trial *t = with;
+
     t->given = given;
     const char *stopped = watch(try_case, t, SECONDS);
     if (stopped != NULL) {
@@ -162,22 +163,23 @@ static bool run_random(writer_trial *t, uint64_t calls, uint64_t seed)
 {
     rng r = {seed};
     for (uint64_t i = 0; i < calls; i++) {
-        if (!writer_passes(t, t->of->random(&r))) {
+        if (!passes(t, t->of->random(&r))) {
             return false;
         }
     }
     return true;
 }
 
-int writer_run(writer_trial *t, bool directed, uint64_t calls, uint64_t seed)
+int writer_run(writer_trial *t, const writer_options *o)
 {
     printf("%s against %s: %s %s, seed %" PRIu64 "\n", t->tested.name, t->reference.name,
-           directed ? "directed" : "random", t->of->cases, seed);
-    if (!(directed ? t->of->directed(t) : run_random(t, calls, seed))) {
+           o->directed ? "directed" : "random", t->of->cases, o->seed);
+    if (!(o->directed ? t->of->directed(passes, t) : run_random(t, o->calls, o->seed))) {
         return EXIT_FAILURE;
     }
-    t->of->print_counts(stdout, t->counts);
-    if (!t->of->met_all(stdout, t->counts)) {
+    meters counted = t->of->counted(t->counts);
+    meters_print(stdout, &counted);
+    if (!meters_met_all(stdout, &counted)) {
         printf("NOT MET: no difference, but the run has not met all that it should\n");
         return NOT_MET;
     }
@@ -188,7 +190,7 @@ int writer_run(writer_trial *t, bool directed, uint64_t calls, uint64_t seed)
 int writer_run_one(writer_trial *t, const void *given)
 {
     for (int i = 0; i < REPEATS; i++) {
-        if (!writer_passes(t, given)) {
+        if (!passes(t, given)) {
             return EXIT_FAILURE;
         }
     }
@@ -197,10 +199,31 @@ int writer_run_one(writer_trial *t, const void *given)
     return EXIT_SUCCESS;
 }
 
-bool writer_is_directed(const char *form, const char *usage)
+/* ---- The command line ---- */
+
+enum { OWN_MOST = 8 };
+
+writer_options writer_read_options(int argc, char **argv, const char *usage, const option *own,
+                                   size_t count)
 {
-    if (strcmp(form, "random") != 0 && strcmp(form, "directed") != 0) {
+    writer_options o = {.program = argv[0], .of = "library", .calls = 200000, .seed = 1,
+                        .out_len = OSPREYSCREEN_CONFIGURATION_LENGTH};
+    const char *form = "random";
+    option all[6 + OWN_MOST] = {
+        {.name = "--form", .text = &form},
+        {.name = "--of", .text = &o.of},
+        {.name = "--calls", .number = &o.calls, .most = UINT64_MAX},
+        {.name = "--seed", .number = &o.seed, .most = UINT64_MAX},
+        {.name = "--out", .number = &o.out_len, .most = OUT_ROOM},
+        {.name = "--null", .flag = &o.null},
+    };
+
+    memcpy(all + 6, own, count * sizeof *own);
+    options_read(argc, argv, usage, all, 6 + count);
+    o.directed = strcmp(form, "directed") == 0;
+    if (!o.directed && strcmp(form, "random") != 0) {
         options_give_up(usage);
     }
-    return strcmp(form, "directed") == 0;
+    setvbuf(stdout, NULL, _IOLBF, 0);
+    return o;
 }

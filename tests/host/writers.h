@@ -10,9 +10,9 @@
 
 #include "calls.h"
 #include "guard.h"
+#include "meters.h"
+#include "options.h"
 #include "rng.h"
-
-#include <stdio.h>
 
 /* The longest output that is lent. */
 enum { OUT_ROOM = 300 };
@@ -28,9 +28,11 @@ typedef struct {
 /* A function of any type; it is called through its own. */
 typedef void any_function(void);
 
-typedef struct writer_trial writer_trial;
+/* Does something with a case; gives whether there are to be more. */
+typedef bool case_user(void *with, const void *given);
 
-/* What an entry is and what its cases are; each function is given a case. */
+/* What an entry is and what its cases are: most functions are given a case, and
+ * counts of the entry's own. */
 typedef struct {
     const char *cases; /* what they are called */
     size_t in_room;    /* the longest input */
@@ -40,16 +42,16 @@ typedef struct {
     const void *(*make)(any_function *function, const void *given, uint8_t *reply,
                         const uint8_t *in, uint8_t *out);
     /* What is wrong with an output that is done, or a null pointer. */
-    const char *(*wrong)(writer_trial *t, const void *given, const uint8_t *out);
+    const char *(*wrong)(const implementation *with, const void *given, const uint8_t *out, rng *r,
+                         void *counts);
     /* Counts a call that gave the number. */
     void (*count)(void *counts, const void *given, uint64_t number, const uint8_t *out);
-    void (*print_counts)(FILE *to, const void *counts);
-    bool (*met_all)(FILE *to, const void *counts);
-    /* Prints the options that run the case again. */
+    meters (*counted)(const void *counts);
+    /* Prints the options that run the case again, but for those of all programs. */
     void (*print_case)(const void *given);
-    /* All directed cases, until one fails; and a random one, which stays until
-     * the next. */
-    bool (*directed)(writer_trial *t);
+    /* Takes all directed cases to the user, until it wants no more; and draws a
+     * random one, which stays until the next. */
+    bool (*directed)(case_user *use, void *with);
     const void *(*random)(rng *r);
 } writer;
 
@@ -62,7 +64,7 @@ typedef struct {
     guarded reply;
 } party;
 
-struct writer_trial {
+typedef struct {
     const writer *of;
     const char *program;
     const implementation *calls; /* of the library that is tested */
@@ -74,23 +76,31 @@ struct writer_trial {
     lending lent;              /* by the case */
     uint8_t before[OUT_ROOM];  /* what stands in the output */
     const char *why;           /* the case fails */
-};
+} writer_trial;
 
-writer_trial writer_trial_make(const writer *of, const char *program, const implementation *calls,
-                               any_function *tested, any_function *reference, void *counts,
-                               uint64_t seed);
+/* What the command lines of all these programs say. */
+typedef struct {
+    const char *program;
+    bool directed; /* the form of the cases */
+    const char *of;
+    uint64_t calls;
+    uint64_t seed;
+    uint64_t out_len; /* of one case, */
+    bool null;        /* and whether it has null pointers */
+} writer_options;
 
-/* Tries the case; tells if it fails. */
-bool writer_passes(writer_trial *t, const void *given);
+/* Reads the options, those of the program too; ends it with the usage if they are
+ * none. */
+writer_options writer_read_options(int argc, char **argv, const char *usage, const option *own,
+                                   size_t count);
 
-/* Runs all cases of the form, random or directed; or one case several times,
- * lent in other ways and with other bytes in the output. Give the exit status:
- * 1 if a case fails, 2 if a run has not met what it should. */
-int writer_run(writer_trial *t, bool directed, uint64_t calls, uint64_t seed);
+writer_trial writer_trial_make(const writer *of, const implementation *calls, any_function *tested,
+                               any_function *reference, void *counts, const writer_options *o);
+
+/* Runs all cases of the form; or one case several times, lent in other ways and
+ * with other bytes in the output. Give the exit status: 1 if a case fails, 2 if a
+ * run has not met what it should. */
+int writer_run(writer_trial *t, const writer_options *o);
 int writer_run_one(writer_trial *t, const void *given);
-
-/* Whether the form of that name is the directed one; ends the program with the
- * usage if it is neither. */
-bool writer_is_directed(const char *form, const char *usage);
 
 #endif
