@@ -71,10 +71,7 @@ static bool is_rising(const uint8_t *form, unsigned side)
     for (unsigned place = 1; place < PLACES; place++) {
         unsigned set = configuration_set(form, side + place);
         unsigned before = configuration_set(form, side + place - 1);
-        if (set != 0 && set <= before) {
-            return false;
-        }
-        if (set != 0 && before == 0) {
+        if (set != 0 && (before == 0 || set <= before)) {
             return false;
         }
     }

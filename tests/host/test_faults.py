@@ -16,10 +16,10 @@ A fault is one edit of the reference, reference.c or another:
 A line that begins with # is no part of the edit, nor is a blank line after it.
 
 The faulty copy is compiled under the library's names and linked with the
-objects of a test program (`differential`, or `votes_trial` for ref_votes.c),
-which have the true reference and not the library's calls that it stands for: so
-the fault is what is tested. The second form runs if the first finds nothing, or
-with --both in any case.
+objects of a test program (`differential` or `form_trial`, or `votes_trial` for
+ref_votes.c), which have the true reference and not the library's calls that it
+stands for: so the fault is what is tested. The second form runs if the first
+finds nothing, or with --both in any case.
 A seed catches a fault if a run ends with status 1 and says FAILED. A crash or
 a run without end is an error and no catch. First of all, a copy without a
 fault has to pass each form with each seed.

@@ -4,7 +4,7 @@ usage: test_machine_faults.py PROGRAM ARCHIVE --out DIR [--functions PATTERN] [-
                               [--calls 200000] [--jobs 2] [--only ADDRESS_OR_SUBSTRING]
                               [--sample N] [--most PERCENT]
 
-PROGRAM is `differential` linked with ARCHIVE, or `votes_trial`. Each fault is
+PROGRAM is `differential` linked with ARCHIVE, or `votes_trial`, or `form_trial`. Each fault is
 put into a copy of it, in one instruction of the archive's functions, of those
 alone whose names have the PATTERN in them if there is one:
 
