@@ -281,7 +281,8 @@ test-readme: $(PLAIN_LIBRARY)
 
 # Every session, configuration, dump and file name in the documents.
 test-docs: build
-	python3 tests/host/test_docs.py $(THE_RUNNER) $(BIN)/plain/format_dump $(BIN)/plain/examples/votes
+	python3 tests/host/test_docs.py $(THE_RUNNER) $(BIN)/plain/format_dump $(BIN)/plain/examples/votes \
+	    $(BIN)/plain/examples/standard_form
 
 soak: test-directed test-calls test-votes test-form test-frames
 

@@ -1,6 +1,6 @@
 """Holds the documents to the programs and the files that they speak of.
 
-usage: test_docs.py RUNNER FORMAT_DUMP VOTES
+usage: test_docs.py RUNNER FORMAT_DUMP VOTES STANDARD_FORM
 
 - Blocks that begin with ```frames: words of tools/frames, each followed by a
   line with # and the reply. The runner has to give these replies. A block that
@@ -9,8 +9,8 @@ usage: test_docs.py RUNNER FORMAT_DUMP VOTES
   survives, its words and its bytes. The runner has to find it valid, and is
   asked for the reach with every set of stations off the bus.
 - The block that begins with ```dump: FORMAT_DUMP has to print the same bytes.
-- Blocks that begin with ```votes: a make command and a line. VOTES, the example,
-  has to print that line.
+- Blocks that begin with ```votes or ```sheets: a make command and a line. The
+  example, VOTES or STANDARD_FORM, has to print that line.
 - Tables of frames: their calls and lengths are those that the runner knows.
 - Names of files and folders: each has to be there.
 - Names of definitions in docs/CLAIMS.md and docs/PROOFS.md: each has to stand
@@ -30,7 +30,7 @@ import unittest
 ROOT = pathlib.Path(__file__).resolve().parents[2]
 FRAMES = [sys.executable, str(ROOT / "tools" / "frames")]
 DOCUMENTS = [ROOT / "README.md", *sorted((ROOT / "docs").glob("*.md"))]
-RUNNER, FORMAT_DUMP, VOTES = "", "", ""
+RUNNER, FORMAT_DUMP, VOTES, STANDARD_FORM = "", "", "", ""
 
 SURVIVES = re.compile(r"(?:reads|writes) survive (?:no|any (\d+)) drops?(?:, and (\d+) of (\d+) choices of (\d+))?")
 FRAME_ROW = re.compile(r"^\| ([0-9A-F]{2}) \| ([a-z ]+) \|.*\| (\d+) \|$", re.MULTILINE)
@@ -110,17 +110,22 @@ class Documents(unittest.TestCase):
                     more = [good, choices, drops] if good else [0, 0, 0]
                     self.assertEqual(said, [any_drops, *more], claim)
 
-    def test_votes(self):
-        sheets = all_blocks("votes")
+    def hold_examples(self, kind, example, words):
+        sheets = all_blocks(kind)
         self.assertNotEqual(sheets, [])
         for name, (command, line) in sheets:
             with self.subTest(document=name, command=command):
                 make, target, *given = shlex.split(command)
                 given = [word.split("=", 1) for word in given]
-                self.assertEqual([make, target, *(word for word, _ in given)],
-                                 ["make", "votes", "VOTES", "READ", "WRITE"])
-                printed = subprocess.run([VOTES, *(text for _, text in given)], capture_output=True, text=True).stdout
+                self.assertEqual([make, target, *(word for word, _ in given)], ["make", *words])
+                printed = subprocess.run([example, *(text for _, text in given)], capture_output=True, text=True).stdout
                 self.assertIn(line, printed.splitlines())
+
+    def test_votes(self):
+        self.hold_examples("votes", VOTES, ["votes", "VOTES", "READ", "WRITE"])
+
+    def test_sheets(self):
+        self.hold_examples("sheets", STANDARD_FORM, ["standard-form", "N", "ONE", "OTHER"])
 
     def test_dump(self):
         printed = output_of([FORMAT_DUMP]).splitlines()
@@ -191,5 +196,5 @@ class Names(unittest.TestCase):
 
 
 if __name__ == "__main__":
-    RUNNER, FORMAT_DUMP, VOTES = sys.argv[1:4]
+    RUNNER, FORMAT_DUMP, VOTES, STANDARD_FORM = sys.argv[1:5]
     unittest.main(argv=sys.argv[:1])
