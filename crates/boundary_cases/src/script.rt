@@ -3,8 +3,8 @@ use crate::lent::Lent;
 use crate::perform::perform;
 use crate::reading::Call;
 
-// Does what the script says, in the space, with room for the bytes that are kept. `calls` says that the byte stands behind the bar of its line, and `shown` that there is
-// text before it.
+// Does what the script says, in the space, with room for the bytes that are kept. `calls` says that the byte stands behind the bar of its line, and
+// `shown` that there is text before it.
 pub fn run(script: &[u8], space: &mut [u8], room: &mut [u8]) {
     let mut lent = Lent {
         len: 0,

@@ -1,15 +1,15 @@
 -- The sets of a side that stay are its smallest sets: those within which no other station set holds one.
 use mathlib.Core.Path.{_≡_, refl, sym, _∙_}
-use mathlib.Core.Bool.{Bool, true, false, not, _&&_}
+use mathlib.Core.Bool.{true, false, not, _&&_}
 use mathlib.Core.Logic.{_↔_}
-use Prim.Native.Nat.{ℕ, zero, suc, _≤_, _<_}
+use Prim.Native.Nat.{ℕ, zero, suc, _<_}
 use native.Mathlib.Nat.{not-suc-le-zero}
 use native.Mathlib.Omega.{arith}
 use lib.Dec.{eqb}
-use borrow.Author.Tests.{eqb-true, eqb-false, eq-eqb, ne-eqb, not-true}
-use Rattle.basics.specs.Tests.{anyBelow, Some}
+use borrow.Author.Tests.{eqb-true, eqb-false, eq-eqb, not-true}
+use Rattle.basics.specs.Tests.{Some}
 use Rattle.basics.proofs.Tests.{clash, either, fails, and-left, and-right, and-both, any-below, below-any}
-use Rattle.quorum.specs.Sets.{member, used, holds}
+use Rattle.quorum.specs.Sets.{used, holds}
 use Rattle.quorum.specs.Configurations.{holdsPlace}
 use Rattle.quorum.specs.Promise.{_⊆_, LiesIn, QuorumIn}
 use Rattle.quorum.proofs.Promise.{promise}

@@ -16,7 +16,8 @@ use Rattle.quorum.specs.Promise.{Promise, _⊆_, QuorumIn, FirstIn, Side
 use Rattle.quorum.specs.declared.Place.the-variants.{At, Nowhere}
 use Rattle.basics.proofs.Tests.{clash, fails, same-test, either}
 use Rattle.quorum.proofs.Members.{member-empty, member-join, member-or, member-minus, member-remove, member-full, same-members}
-use Rattle.quorum.proofs.Members.{holds-member, member-holds, subset-le, shares-members, used-member, within-members, within-join, within-unite, within-minus}
+use Rattle.quorum.proofs.Members.{holds-member, member-holds, subset-le, shares-members, used-member}
+use Rattle.quorum.proofs.Members.{within-members, within-join, within-unite, within-minus}
 use Rattle.quorum.proofs.Members.{lowest-member, below-lowest, remove-less, without-lowest}
 use Rattle.quorum.proofs.Validity.{valid-facts, facts-valid, first-used, place-lies, lies-place}
 use Rattle.quorum.proofs.Validity.{first-exactly, first-nowhere, first-same, no-place, a-place, figure-at, figure-nowhere, figure-place, figure-none}

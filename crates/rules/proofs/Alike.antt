@@ -222,7 +222,8 @@ module _ {R : List ℕ → List ℕ → Type 0} {seen : Call → Reply → Reply
           version = λ j. cond (e j) (p .version j) (q .version j);
           value = λ j. cond (e j) (p .value j) (q .value j);
           generation = λ j. cond (d j) (p .generation j) (q .generation j);
-          config = rw d (by-cases (λ (t : Bool). R (cond t (new .config) (x .config)) (cond t (other .config) (y .config))) c′ (λ _. p .config) (λ _. q .config));
+          config = rw d (by-cases (λ (t : Bool). R (cond t (new .config) (x .config)) (cond t (other .config) (y .config))) c′
+              (λ _. p .config) (λ _. q .config));
         }
 
     committed-alike : v .isSound ≡ true → (i s : ℕ) → i < w .m → s < w .n → CopyBy R (next v commit .copies i s) (next w commit .copies i s)
@@ -281,7 +282,8 @@ module _ {R : List ℕ → List ℕ → Type 0} {seen : Call → Reply → Reply
               ∷ (not (heard-same e j), 8) ∷ (wrongPut (its .kind j) sort, 9) ∷ (of-kind e _ _ (λ k. spent-put-same e k sort) j, 10) ∷ []));
           figures = λ _. refl;
           states = λ _. with-round _ _ (sets-alike _ _ _ _ _ _ (its .polled)
-              (λ j. cond (isData sort) (join (its .dataPuts j) s) (its .dataPuts j)) (λ j. cond (isData sort) (its .configPuts j) (join (its .configPuts j) s)));
+              (λ j. cond (isData sort) (join (its .dataPuts j) s) (its .dataPuts j))
+              (λ j. cond (isData sort) (its .configPuts j) (join (its .configPuts j) s)));
         }
     alike-law commit =
         record {

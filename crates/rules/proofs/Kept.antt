@@ -23,7 +23,7 @@ use Rattle.rules.proofs.Chains.{Decides, first-tells}
 use Rattle.rules.proofs.Judged.{judged, asked-first, unsound-number}
 use Rattle.rules.proofs.Demand1.{refusal-changes-nothing}
 use Rattle.rules.proofs.States.{next}
-use Rattle.rules.proofs.Laws.{done-law, holds-next, next-view, bytes-kept}
+use Rattle.rules.proofs.Laws.{done-law, holds-next, bytes-kept}
 
 -- a state like a sound one is sound
 like-sound : (v w : State) → SameContents v w → StateSound w → StateSound v

@@ -247,7 +247,8 @@ module _ (t : Table) (bytes : AreBytes t) (i : ℕ) where
       let a = done-allowed t c e in
       begins c write x noTarget (a-round write .0 refl) p e (a .0) (a .1 .0) (next-view t c e bytes p)
 
-  change-begun : (l : List ℕ) → Passable (openChange i l) → reply t (openChange i l) .number ≡ 0 → Begun t (openChange i l) change i 0 (standardForm (view t .n) l)
+  change-begun : (l : List ℕ) → Passable (openChange i l) → reply t (openChange i l) .number ≡ 0
+      → Begun t (openChange i l) change i 0 (standardForm (view t .n) l)
   unfolding needs
   change-begun l p e =
       let c = openChange i l in

@@ -43,5 +43,6 @@ unfolding text chars shown littleEndian isDigit allDigits valueOf byteOf bytesIn
     figuresOf done tableLength address sound soundness roundSound copiesValid all allBelow anyBelow valid validity setAt readSet writeSet usedFirst
     someUsed allWithin sharesAll allShare holdsPlace firstPlace orElse firstRead firstWrite placeFigure isPlace member used holds shares within join
     minus remove full copyFrom bytesOf over setOff setPolled setPuts setRound putData putConfig copyBytes repeated putCopies newest byVersion
-    byGeneration hears passing pollsNeeded putsNeeded isSetOf containsAnother stays formSets places sideBytes configBytes standardForm frameCase frameReplies mixedCase mixedReplies
+    byGeneration hears passing pollsNeeded putsNeeded isSetOf containsAnother stays formSets places sideBytes configBytes standardForm
+    frameCase frameReplies mixedCase mixedReplies
 frame-cases = refl

@@ -8,18 +8,18 @@ use native.Mathlib.Omega.{arith}
 use lib.Dec.{ltb}
 use lib.ListN.{length, replicate}
 use borrow.Author.Tests.{ltb-true, ltb-false}
-use Rattle.basics.specs.Bytes.{part, littleEndian, number, over, AreBytes, bytesOf}
+use Rattle.basics.specs.Bytes.{part, littleEndian, number, AreBytes}
 use Rattle.basics.proofs.Tests.{either, below-suc}
-use Rattle.basics.proofs.Parts.{part-length, length-over, part-whole, part-before, part-after, bytes-over, bytes-part, own-bytes, read-zeros}
+use Rattle.basics.proofs.Parts.{length-over, part-whole, part-before, bytes-over}
 use Rattle.quorum.specs.Configurations.{configSize, valid}
 use Rattle.quorum.specs.Promise.{SamePasses}
 use Rattle.form.specs.Form.{standardForm}
 use Rattle.form.proofs.Laws.{form-length, form-bytes, form-valid, form-spells, spells-itself, form-nothing}
-use Rattle.layout.specs.Layout.{headSize, targetAt, copiesAt, copySize, copyVersionAt, copyValueAt, copyGenerationAt, copyConfigAt}
+use Rattle.layout.specs.Layout.{targetAt, copiesAt, copySize, copyVersionAt, copyValueAt, copyGenerationAt, copyConfigAt}
 use Rattle.layout.specs.Layout.{stationsAt, itemsAt, offAt, kindAt, itemAt, polledAt, dataPutsAt, configPutsAt, spareAt, valueAt, address, tableLength}
-use Rattle.layout.specs.Fields.{Copy, newCopy, Kind, none, read, write, change, kindOf, Round, stations, items, offSet, roundOf, copyFrom, copyOf}
+use Rattle.layout.specs.Fields.{Copy, newCopy, Kind, none, read, write, change, kindOf, Round, stations, items, roundOf, copyFrom}
 use Rattle.layout.specs.Soundness.{sound}
-use Rattle.layout.specs.View.{Table, State, view, CopyBy, RoundBy, ContentsBy}
+use Rattle.layout.specs.View.{Table, view, ContentsBy}
 use Rattle.layout.proofs.Fields.{target-length, outside, outside-before, outside-after, only-over}
 use Rattle.layout.proofs.Soundness.{RoundFacts, StateSound, sound-facts, facts-sound, sound-head}
 use Rattle.spelling.specs.Spellings.{configAt, respellTo, respelled}

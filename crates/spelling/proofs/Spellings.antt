@@ -1,14 +1,13 @@
 -- Spellings of a configuration in calls and in tables.
 use mathlib.Core.Path.{_≡_, refl, sym, ap, _∙_}
-use mathlib.Core.Bool.{Bool, true, not, cond}
+use mathlib.Core.Bool.{true, not, cond}
 use mathlib.Core.List.{List, [], _∷_}
-use Prim.Native.Nat.{ℕ, zero, suc}
-use native.Mathlib.Omega.{arith}
+use Prim.Native.Nat.{ℕ}
 use lib.Dec.{eqb}
 use borrow.Author.Tests.{eqb-true, eq-eqb, ne-eqb}
 use Rattle.basics.specs.Bytes.{AreBytes}
 use Rattle.basics.proofs.Tests.{clash, either}
-use Rattle.quorum.specs.Configurations.{valid, firstRead, placeFigure, isPlace}
+use Rattle.quorum.specs.Configurations.{firstRead, placeFigure, isPlace}
 use Rattle.quorum.specs.Promise.{SamePasses}
 use Rattle.quorum.specs.declared.Place.{Place}
 use Rattle.quorum.proofs.Promise.{promise}
@@ -18,12 +17,12 @@ use Rattle.layout.specs.Layout.{tableLength}
 use Rattle.layout.specs.Fields.{kindByte, change}
 use Rattle.layout.specs.Soundness.{sound}
 use Rattle.layout.specs.Updates.{laid, setRound}
-use Rattle.layout.specs.View.{Table, State, view, ContentsBy}
+use Rattle.layout.specs.View.{Table, view}
 use Rattle.layout.proofs.Soundness.{is-sound, sound-facts}
 use Rattle.layout.proofs.TableFacts.{table-facts}
-use Rattle.rules.specs.Calls.{Call, lay, openChange, poll, diagnose}
+use Rattle.rules.specs.Calls.{Call, lay, openChange}
 use Rattle.rules.specs.Rules.{first, tests, refusals, numberOf, noSize, noItem, isIdle}
-use Rattle.rules.specs.Figures.{Figures, figuresOf, noFigures, oneFigure}
+use Rattle.rules.specs.Figures.{figuresOf, oneFigure}
 use Rattle.rules.specs.After.{done}
 use Rattle.rules.specs.Needs.{needs}
 use Rattle.rules.specs.Reply.{answer, replyOf, reply, after}
@@ -31,7 +30,7 @@ use Rattle.rules.specs.Lists.{replies, afterAll, AllPassable}
 use Rattle.rules.proofs.Laws.{done-allowed, next-view, bytes-kept}
 use Rattle.rules.proofs.Kept.{after-sound, stays-sound}
 use Rattle.rules.proofs.Alike.{AlikeBy, Agree, reply-alike, all-alike}
-use Rattle.spelling.specs.Spellings.{OneForm, SameCall, the-same, of-lay, of-change, SameCalls, SameHouse, respelled, anyPlace, butForPlace}
+use Rattle.spelling.specs.Spellings.{SameCall, the-same, of-lay, of-change, SameCalls, SameHouse, respelled, anyPlace, butForPlace}
 use Rattle.spelling.specs.Spellings.{SameReplies, Spellings}
 use Rattle.spelling.proofs.Before.{lay-before, change-before}
 use Rattle.spelling.proofs.InForm.{respelled-in-form, unchanged, all-in-form, laid-in-form, in-form-like}
@@ -77,6 +76,7 @@ one-form t (c ∷ calls) (d ∷ others) r =
     (λ j. same .0 j ∷ (rest .0 ∙ ap (λ u. replies u others) (same .1)) j, rest .1 ∙ ap (λ u. afterAll u others) (same .1))
 
 -- ---- spellings in tables
+-- what is left of a read place is whether there is one, and that is whether the set passes
 any-place : (p : Place) → anyPlace (placeFigure p) ≡ cond (isPlace p) 1 0
 any-place p =
     either (isPlace p)
@@ -178,7 +178,8 @@ house t b s = record { bytes = (b, respelled-bytes t b); areSound = (s, respelle
 other-way : (t u : Table) → SameReplies t u → SameReplies u t
 other-way t u h calls p c = sym (h calls p c)
 
-respelled-after : (t : Table) (calls : List Call) → AreBytes t → sound t ≡ true → AllPassable calls → afterAll (respelled t) calls ≡ respelled (afterAll t calls)
+respelled-after : (t : Table) (calls : List Call) → AreBytes t → sound t ≡ true → AllPassable calls
+    → afterAll (respelled t) calls ≡ respelled (afterAll t calls)
 respelled-after t calls b s p =
     let h = stays-same t (respelled t) (house t b s) calls p in
     sym (unchanged (afterAll (respelled t) calls) (h .bytes .1) (h .areSound .1)

@@ -3,13 +3,12 @@ use mathlib.Core.Path.{_≡_}
 use mathlib.Core.Bool.{true}
 use mathlib.Core.List.{List}
 use mathlib.Core.Logic.{_↔_}
-use Prim.Native.Nat.{ℕ, zero, suc, _^_, _≤_, _<_}
+use Prim.Native.Nat.{ℕ, _^_, _≤_, _<_}
 use native.Mathlib.Omega.{arith}
-use lib.Dec.{eqb, ltb}
 use lib.ListN.{length, getD}
-use borrow.Author.Tests.{ltb-true, ltb-false, lt-ltb, eqb-true, eqb-false}
+use borrow.Author.Tests.{ltb-true, ltb-false, lt-ltb}
 use Rattle.basics.specs.Listing.{Listing}
-use Rattle.basics.proofs.Tests.{fails, either}
+use Rattle.basics.proofs.Tests.{fails}
 use Rattle.basics.proofs.Listing.{same-listing, listing, at-or-behind}
 use Rattle.votes.specs.Votes.{smallest, smallestSets, tooMany}
 use Rattle.votes.specs.Claims.{Smallest, MoreThanEight}
