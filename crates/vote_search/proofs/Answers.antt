@@ -11,12 +11,11 @@ use Rattle.basics.specs.Bytes.{over}
 use Rattle.basics.specs.Tests.{all}
 use Rattle.basics.proofs.Tests.{clash, either, fails, and-left, and-right, or-left, or-right}
 use Rattle.quorum.specs.Configurations.{configSize}
-use Rattle.form.specs.Sides.{places}
+use Rattle.form.specs.Sides.{sideBytes}
 use Rattle.rules.specs.Rules.{first}
 use Rattle.votes.specs.Votes.{total, trueVotes, smallestSets, tooMany, votesRefusals, votesNumber, configurationOf, votesOutput}
 use Rattle.votes.specs.Claims.{TrueVotes}
 use Rattle.votes.proofs.Claims.{true-votes}
-use Rattle.forming.specs.Forming.{upTo, Gathers}
 use Rattle.forming.proofs.Output.{written-config}
 use Rattle.vote_search.specs.Search.{Found, fit}
 
@@ -57,18 +56,6 @@ true-fit votes read write sum p q e f =
       write-positive = omega arith;
       write-reached = rw e at (leb-true write sum (t .1));
       together = rw e at (ltb-true sum (read + write) (t .4));
-    }
-
--- ---- a side
--- what was found, with no more than eight, is the list of the smallest sets
-side-found : (votes : List ℕ) (threshold : ℕ) (found : List ℕ) (count : ℕ) → Found votes threshold found count → count ≤ 8
-    → Gathers (smallestSets votes threshold) found count
-side-found votes threshold found count f l =
-    record {
-      each = λ k.
-          either (ltb k count)
-          (λ e. rw e (f .each l k (ltb-true k count e)))
-          (λ e. rw e (sym (List·getD-eq-default (smallestSets votes threshold) 0 (omega (arith, f .all l, ltb-false k count e)))));
     }
 
 -- ---- the reply
@@ -113,11 +100,11 @@ module _ (votes : List ℕ) (read write : ℕ) (out : List ℕ) where
 
       -- both sides were found whole, and are written
       pub written : (reads writes : List ℕ) (r w : ℕ) → Found votes read reads r → r ≤ 8 → Found votes write writes w → w ≤ 8
-          → Answers 0 (over (over out 0 (places (upTo reads r) 8)) 16 (places (upTo writes w) 8))
+          → Answers 0 (over (over out 0 (sideBytes reads)) 16 (sideBytes writes))
       unfolding votesNumber votesRefusals first tooMany configurationOf
       written reads writes r w f l g m =
           let few-reads : length (smallestSets votes read) ≤ 8 = omega (arith, f .all l) in
           let few-writes : length (smallestSets votes write) ≤ 8 = omega (arith, g .all m) in
           answers 0 _
           (rw (eq-eqb (length out) configSize long, passed, le-ltb 8 _ few-reads, le-ltb 8 _ few-writes))
-          (written-config out reads writes _ _ r w long (side-found votes read reads r f l) (side-found votes write writes w g m))
+          (written-config out reads writes _ _ long (record { each = f .each l }) (record { each = g .each m }))

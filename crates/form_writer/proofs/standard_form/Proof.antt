@@ -2,7 +2,6 @@ use borrow.Author.Needs.{needs}
 use mathlib.Core.Path.{sym, _∙_}
 use native.Mathlib.Omega.{arith}
 use borrow.Author.Tests.{not-true, not-false}
-use Rattle.quorum.proofs.Promise.{promise}
 use Rattle.form_writer.proofs.Answers.{not-listed, false-configuration, formed}
 use Rattle.form_writer.proofs.standard_form.Statement.{statement}
 use Rattle.form_writer.proofs.standard_form.Tie as tie
@@ -26,7 +25,7 @@ returns-4 c =
 
 form-of-requires : tie.Need-form-of-requires
 form-of-requires c κs =
-    let passed = c .before in promise .valid-length _ _ (sym (passed .before .is-valid .ensures) ∙ not-false _ (passed .if4 .left))
+    let passed = c .before in (_, sym (passed .before .is-valid .ensures) ∙ not-false _ (passed .if4 .left))
 
 put-config-bytes-requires : tie.Need-put-config-bytes-requires
 put-config-bytes-requires c κs = search needs

@@ -38,7 +38,7 @@ unfolding needed
 form-of-requires c κs =
     let asked = c .before .before in
     let s = asked .before .before .before .before .pre in
-    shown _ s (openChange _ _) refl (asked .open-change-number .ensures) (c .before .if1 .left) .1 .1 .0 .long
+    (_, promise .valid-exactly _ _ .1 (shown _ s (openChange _ _) refl (asked .open-change-number .ensures) (c .before .if1 .left) .1 .1 .0))
 
 set-round-requires : tie.Need-set-round-requires
 set-round-requires c κs = sound-head _ (c .before .before .before .before .before .before .before .pre)

@@ -1,5 +1,4 @@
 use mathlib.Core.Path.{_≡_, refl, sym, _∙_}
-use Rattle.quorum.proofs.Promise.{promise}
 use Rattle.form.proofs.Laws.{form-any}
 use Rattle.layout.specs.View.{view}
 use Rattle.rules.specs.Calls.{lay}
@@ -36,7 +35,7 @@ allowed c =
     sym (asked .lay-number .ensures ∙ lay-number-is (a .table .now) _ _ (a .value) (a .config .now)) ∙ c .if1 .left
 
 form-of-requires : tie.Need-form-of-requires
-form-of-requires c κs = promise .valid-length _ _ (lay-valid _ _ _ _ _ (allowed c))
+form-of-requires c κs = (_, lay-valid _ _ _ _ _ (allowed c))
 
 slice-aggregate-lay-bytes : tie.Need-slice-aggregate-lay-bytes
 slice-aggregate-lay-bytes c = search needs
