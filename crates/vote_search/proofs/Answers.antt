@@ -5,11 +5,11 @@ use mathlib.Core.List.{List}
 use Prim.Native.Nat.{ℕ, _+_, _≤_, _<_}
 use native.Mathlib.Omega.{arith}
 use lib.Dec.{ltb, leb, eqb}
-use lib.ListN.{length, List·getD-eq-default}
-use borrow.Author.Tests.{eqb-false, ltb-true, ltb-false, leb-true, le-leb, lt-ltb, le-ltb, eq-eqb, ne-eqb, not-true}
+use lib.ListN.{length}
+use borrow.Author.Tests.{eqb-false, ltb-true, leb-true, le-leb, lt-ltb, le-ltb, eq-eqb, ne-eqb, not-true}
 use Rattle.basics.specs.Bytes.{over}
 use Rattle.basics.specs.Tests.{all}
-use Rattle.basics.proofs.Tests.{clash, either, fails, and-left, and-right, or-left, or-right}
+use Rattle.basics.proofs.Tests.{clash, fails, and-left, and-right, or-left, or-right}
 use Rattle.quorum.specs.Configurations.{configSize}
 use Rattle.form.specs.Sides.{sideBytes}
 use Rattle.rules.specs.Rules.{first}
