@@ -2,3 +2,4 @@ pub mod Places
 pub mod Sides
 pub mod Smallest
 pub mod Laws
+pub mod Own
