@@ -51,7 +51,7 @@ module _ (n : ℕ) (side : ℕ → ℕ) (few : n ≤ 16) (s : Side n side) where
 
   -- a side into which they were written
   module _ (form : ℕ → ℕ) (back : (k : ℕ) → k < 8 → getD (formSets n side) k 0 < 65536 → form k ≡ getD (formSets n side) k 0) where
-    form-filled : Filled (Staying side) (formSets n side) form
+    pub form-filled : Filled (Staying side) (formSets n side) form
     form-filled =
         record { listed = form-listing; room = form-room; place = λ k l. back k l (two-bytes n (Staying side) _ few form-listing stays-within k) }
 
@@ -147,11 +147,11 @@ module _ (n : ℕ) (c : List ℕ) (v : valid n c ≡ true) where
   abbrev form : List ℕ
   form = standardForm n c
 
-  read-place : (k : ℕ) → k < 8 → getD (formSets n (readSet c)) k 0 < 65536 → readSet form k ≡ getD (formSets n (readSet c)) k 0
+  pub read-place : (k : ℕ) → k < 8 → getD (formSets n (readSet c)) k 0 < 65536 → readSet form k ≡ getD (formSets n (readSet c)) k 0
   unfolding standardForm configBytes sideBytes
   read-place = read-back _ _
 
-  write-place : (k : ℕ) → k < 8 → getD (formSets n (writeSet c)) k 0 < 65536 → writeSet form k ≡ getD (formSets n (writeSet c)) k 0
+  pub write-place : (k : ℕ) → k < 8 → getD (formSets n (writeSet c)) k 0 < 65536 → writeSet form k ≡ getD (formSets n (writeSet c)) k 0
   unfolding standardForm configBytes sideBytes
   write-place = written-back _ _
 

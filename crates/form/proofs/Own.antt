@@ -7,10 +7,10 @@ use native.Mathlib.Nat.{not-suc-le-zero}
 use native.Mathlib.Numerals.{add-one}
 use native.Mathlib.Omega.{arith}
 use lib.Dec.{ltb}
-use lib.ListN.{length, getD, take, drop, length-append, List·getD-append, List·getD-eq-default}
+use lib.ListN.{length, getD, drop, length-append, List·getD-append, List·getD-eq-default}
 use lib.Seq.{getD-append-seam, drop-drop, take-add, take-all}
 use borrow.Author.Tests.{ltb-true, ltb-false, eq-eqb}
-use Rattle.basics.specs.Bytes.{part, number, bytesOf, AreBytes}
+use Rattle.basics.specs.Bytes.{part, number, AreBytes}
 use Rattle.basics.specs.Listing.{Listing}
 use Rattle.basics.proofs.Tests.{clash, either, below-suc}
 use Rattle.basics.proofs.Listing.{same-numbers}
@@ -23,7 +23,8 @@ use Rattle.form.specs.Sides.{places, sideBytes, configBytes}
 use Rattle.form.specs.Form.{formSets, standardForm}
 use Rattle.form.proofs.Places.{places-same}
 use Rattle.form.proofs.Smallest.{stays-used, stays-place}
-use Rattle.form.proofs.Laws.{Staying, form-listing}
+use Rattle.form.proofs.Sides.{Filled}
+use Rattle.form.proofs.Laws.{Staying, form-listing, form-filled, read-place, write-place}
 
 -- ---- the first places of a side as a list
 firstSets : (ℕ → ℕ) → ℕ → List ℕ
@@ -121,3 +122,15 @@ module _ (n : ℕ) (c : List ℕ) (v : valid n c ≡ true) (b : AreBytes c) wher
         own-places c 0 8 b (omega (arith, long-config)),
         own-places c 16 8 b (omega (arith, long-config)),
       ) (part-more c 0 16 16 ∙ take-all 32 c (omega (arith, long-config)))
+
+-- ---- and back: the sides of one that is its own form have the sets of the form
+module _ (n : ℕ) (c : List ℕ) (v : valid n c ≡ true) (own : standardForm n c ≡ c) where
+  pub reads-filled : Filled (Staying (readSet c)) (formSets n (readSet c)) (readSet c)
+  reads-filled =
+      let facts = promise .valid-exactly n c .0 v in
+      rw own at (form-filled n (readSet c) (facts .small) (facts .reads) (readSet (standardForm n c)) (read-place n c v))
+
+  pub writes-filled : Filled (Staying (writeSet c)) (formSets n (writeSet c)) (writeSet c)
+  writes-filled =
+      let facts = promise .valid-exactly n c .0 v in
+      rw own at (form-filled n (writeSet c) (facts .small) (facts .writes) (writeSet (standardForm n c)) (write-place n c v))

@@ -1,27 +1,35 @@
 -- A side whose sets rise, none within a later one, has the sets that stay, and no others.
 use mathlib.Core.Path.{_≡_, refl, sym, ap, fun-ext, transport, _∙_}
-use mathlib.Core.Bool.{true, false, _&&_}
+use mathlib.Core.Bool.{true, false, not, _&&_, false≢true}
 use mathlib.Core.List.{List, [], _∷_}
+use mathlib.Core.Logic.{_↔_}
 use Prim.Native.Nat.{ℕ, zero, suc, _+_, _-_, _≤_, _<_}
-use native.Mathlib.Nat.{not-suc-le-zero, zero-add, add-zero}
-use native.Mathlib.Numerals.{add-one}
+use native.Mathlib.Nat.{not-suc-le-zero, zero-add}
 use native.Mathlib.Omega.{arith}
 use lib.Dec.{ltb, eqb}
 use lib.Bits.{bitAnd}
-use lib.ListN.{getD}
+use lib.ListN.{length, getD, List·getD-eq-default}
 use borrow.Author.Count.{below-more}
-use borrow.Author.Tests.{ltb-true, ltb-false, eqb-true, eqb-false, ne-eqb, not-true, not-false}
+use borrow.Author.Tests.{ltb-true, ltb-false, eqb-true, eqb-false, eq-eqb, ne-eqb, not-true, not-false}
 use Rattle.basics.specs.Bytes.{AreBytes}
-use Rattle.basics.proofs.Tests.{clash, either, fails, and-left, and-right, any-below, below-suc}
+use Rattle.basics.proofs.Tests.{clash, either, fails, and-left, and-right, and-both, any-below, below-any, below-suc}
 use Rattle.quorum.specs.Sets.{used, holds}
 use Rattle.quorum.specs.Configurations.{setAt, readSet, writeSet, holdsPlace, valid}
-use Rattle.quorum.specs.Promise.{Side}
+use Rattle.quorum.specs.Promise.{Side, Valid}
 use Rattle.quorum.proofs.Promise.{promise}
 use Rattle.form.specs.Form.{containsAnother, standardForm}
-use Rattle.form.proofs.Smallest.{alone-stays}
-use Rattle.form.proofs.Own.{Formed, own-config}
-use Rattle.form.proofs.Laws.{form-any}
+use Rattle.form.proofs.Sides.{Filled}
+use Rattle.form.proofs.Smallest.{stays-used, stays-alone, alone-stays}
+use Rattle.form.proofs.Own.{Formed, own-config, reads-filled, writes-filled}
+use Rattle.form.proofs.Laws.{Staying, form-any}
 use Rattle.in_form.specs.InForm.{sideFrom, Apart, Follows, InForm}
+
+-- ---- the answers
+pub yes : {A : Type 0} → A → (true ≡ true) ↔ A
+yes a = (λ _. a, λ _. refl)
+
+pub no : {A : Type 0} → (A → ⊥) → (false ≡ true) ↔ A
+no h = (λ e. absurd (false≢true e), λ a. absurd (h a))
 
 -- ---- the loops
 -- one place more whose set does not lie within the given one
@@ -30,6 +38,11 @@ pub apart-more : (side : ℕ → ℕ) (place set : ℕ) {other : ℕ} → other 
 unfolding holds
 apart-more side place set here e before =
     below-more (λ (j : ℕ). holds set (side j) ≡ false) place before (rw (← here) (ne-eqb (bitAnd set _) _ e))
+
+-- one that does
+pub not-apart : (side : ℕ → ℕ) (place set j : ℕ) {other : ℕ} → j < place → other ≡ side j → bitAnd set other ≡ other → Apart side place set → ⊥
+unfolding holds
+not-apart side place set j l here e apart = clash (eq-eqb (bitAnd set (side j)) (side j) (rw here at e)) (apart j l)
 
 -- the first sets of a side, as many as the count says, follow one another
 abbrev pub Orderly : (ℕ → ℕ) → ℕ → Type 0
@@ -54,6 +67,25 @@ module _ (side : ℕ → ℕ) (k : ℕ) (before : Orderly side k) where
 
   pub ends-last : 1 ≤ k → k ≤ 8 → 8 ≤ k → InForm side
   ends-last l m n = record { count = k; some = l; room = m; each = before; end = λ q. absurd (omega arith) }
+
+  -- a used place behind those: in a side in form its set follows, too
+  module _ {set : ℕ} (l : 1 ≤ k) (m : k < 8) (here : set ≡ side k) (some : set ≡ 0 → ⊥) (f : InForm side) where
+    follows : Follows side k
+    follows =
+        either (ltb k (f .count))
+        (λ e. f .each k l (ltb-true k (f .count) e))
+        (λ e. let past = ltb-false k (f .count) e in
+        let nothing = f .end (omega arith) in
+        either (eqb (f .count) k)
+        (λ d. absurd (some (here ∙ ap side (sym (eqb-true (f .count) k d)) ∙ nothing)))
+        (λ d. let other : f .count ≡ k → ⊥ = eqb-false (f .count) k d in
+        absurd (omega (arith, nothing, before (f .count) (f .some) (omega arith) .above))))
+
+    pub above-last : {last : ℕ} → last ≡ side (k - 1) → set ≤ last → ⊥
+    above-last low below = omega (arith, low, here, follows .above)
+
+    pub apart-here : Apart side k set
+    apart-here = rw here (follows .apart)
 
 -- ---- a valid side that is so ordered
 unused : (a : ℕ) → used a ≡ false → a ≡ 0
@@ -119,15 +151,69 @@ module _ (n : ℕ) (side : ℕ → ℕ) (s : Side n side) (f : InForm side) wher
         behind = behind;
       }
 
+-- ---- and back: a side that has the sets of its form
+module _ (n : ℕ) (side : ℕ → ℕ) (l : List ℕ) (s : Side n side) (filled : Filled (Staying side) l side) where
+  some-set : 1 ≤ length l
+  some-set =
+      either (ltb 0 (length l)) (ltb-true 0 (length l))
+      (λ e. let none = filled .place 0 (omega arith) ∙ List·getD-eq-default l 0 (ltb-false 0 (length l) e) in
+      clash (promise .first-used n side s) (ap used none ∙ nothing))
+
+  listed : (k : ℕ) → k < length l → side k ≡ getD l k 0
+  listed k h = let room = filled .room in filled .place k (omega arith)
+
+  -- a set that stays contains none of those before it, which are smaller
+  listed-apart : (k : ℕ) → k < length l → Apart side k (side k)
+  unfolding containsAnother holdsPlace
+  listed-apart k h j m =
+      let room = filled .room in
+      let inside : j < length l = omega arith in
+      let less = filled .listed .rises j k m h in
+      let stay : Staying side (side j) = rw (listed j inside) (filled .listed .only j inside) in
+      let last : Staying side (side k) = rw (listed k h) (filled .listed .only k h) in
+      fails _ (λ e. clash (below-any (λ i. (used (side i) && holds (side k) (side i)) && not (eqb (side i) (side k))) 8 j (omega arith)
+      (and-both _ _ (and-both _ _ (stays-used side (side j) stay) e)
+      (ap not (ne-eqb (side j) (side k) (λ q. omega (arith, listed j inside, listed k h, less))))))
+      (stays-alone side (side k) last))
+
+  pub filled-form : InForm side
+  filled-form =
+      record {
+        count = length l;
+        some = some-set;
+        room = filled .room;
+        each = λ k p h. let before : k - 1 < length l = omega arith in
+            record { above = rw (listed (k - 1) before, listed k h) (filled .listed .rises (k - 1) k (omega arith) h); apart = listed-apart k h };
+        end = λ h. filled .place (length l) h ∙ List·getD-eq-default l 0 (omega arith);
+      }
+
 -- ---- both sides
 each-byte : (l : List ℕ) → ((i : ℕ) → getD l i 0 < 256) → AreBytes l
 each-byte [] h = tt
 each-byte (x ∷ l) h = (h 0, each-byte l (λ i. h (suc i)))
 
-pub in-form : (n : ℕ) (c : List ℕ) → valid n c ≡ true → ((i : ℕ) → getD c i 0 < 256) → InForm (sideFrom c 0) → InForm (sideFrom c 8) → standardForm 16 c ≡ c
-unfolding readSet writeSet
-in-form n c v b reads writes =
-    let facts = promise .valid-exactly n c .0 v in
-    let first : InForm (readSet c) = transport (ap InForm (fun-ext (λ k. ap (setAt c) (zero-add k)))) reads in
-    sym (form-any n c v)
-    ∙ own-config n c v (each-byte c b) _ _ (formed n (readSet c) (facts .reads) first) (formed n (writeSet c) (facts .writes) writes)
+module _ (n : ℕ) (c : List ℕ) (v : valid n c ≡ true) where
+  abbrev facts : Valid n c
+  facts = promise .valid-exactly n c .0 v
+
+  reads-from : sideFrom c 0 ≡ readSet c
+  unfolding readSet
+  reads-from = fun-ext (λ k. ap (setAt c) (zero-add k))
+
+  writes-from : sideFrom c 8 ≡ writeSet c
+  unfolding writeSet
+  writes-from = refl
+
+  pub in-form : ((i : ℕ) → getD c i 0 < 256) → InForm (sideFrom c 0) → InForm (sideFrom c 8) → standardForm 16 c ≡ c
+  in-form b reads writes =
+      sym (form-any n c v)
+      ∙ own-config n c v (each-byte c b) _ _ (formed n (readSet c) (facts .reads) (transport (ap InForm reads-from) reads))
+      (formed n (writeSet c) (facts .writes) (transport (ap InForm writes-from) writes))
+
+  pub reads-in-form : standardForm 16 c ≡ c → InForm (sideFrom c 0)
+  reads-in-form own =
+      transport (ap InForm (sym reads-from)) (filled-form n (readSet c) _ (facts .reads) (reads-filled n c v (form-any n c v ∙ own)))
+
+  pub writes-in-form : standardForm 16 c ≡ c → InForm (sideFrom c 8)
+  writes-in-form own =
+      transport (ap InForm (sym writes-from)) (filled-form n (writeSet c) _ (facts .writes) (writes-filled n c v (form-any n c v ∙ own)))

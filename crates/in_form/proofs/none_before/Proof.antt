@@ -1,9 +1,8 @@
 use borrow.Author.Needs.{needs}
-use mathlib.Core.Bool.{false≢true}
 use Prim.Native.Nat.{_-_, _≤_}
 use native.Mathlib.Omega.{arith}
 use Rattle.in_form.specs.InForm.{sideFrom, Apart}
-use Rattle.in_form.proofs.Ordered.{apart-more}
+use Rattle.in_form.proofs.Ordered.{yes, no, apart-more, not-apart}
 use Rattle.in_form.proofs.none_before.Statement.{statement}
 use Rattle.in_form.proofs.none_before.Tie as tie
 
@@ -23,7 +22,7 @@ load-set-requires : tie.Need-load-set-requires Inv-loop μ-loop
 load-set-requires c κs = search needs
 
 returns : tie.Need-returns Inv-loop μ-loop
-returns c = λ e. absurd (false≢true e)
+returns c = no (not-apart _ _ _ _ (c .before .before .loop-test .taken) (c .before .load-set .ensures) (c .if1 .taken))
 
 add-j : tie.Need-add-j Inv-loop μ-loop
 add-j c = search needs
@@ -37,7 +36,7 @@ loop-again c =
     (search needs, apart-more _ _ _ (c .before .load-set .ensures) (c .if1 .left) (turn .loop .inv .1))
 
 returns-2 : tie.Need-returns-2 Inv-loop μ-loop
-returns-2 c e j l = c .before .loop .inv .1 j (omega (arith, c .loop-test .left))
+returns-2 c = yes (λ j l. c .before .loop .inv .1 j (omega (arith, c .loop-test .left)))
 
 pub none-before-spec : {M : Type 1} → statement M
 none-before-spec =
