@@ -1,4 +1,4 @@
--- A side whose sets rise, none within a later one, has the sets that stay, and no others.
+-- A valid side whose sets rise, none within a later one, has the sets that stay, and no others; and a side that has these is so ordered.
 use mathlib.Core.Path.{_≡_, refl, sym, ap, fun-ext, transport, _∙_}
 use mathlib.Core.Bool.{true, false, not, _&&_, false≢true}
 use mathlib.Core.List.{List, [], _∷_}
@@ -24,7 +24,7 @@ use Rattle.form.proofs.Own.{Formed, own-config, reads-filled, writes-filled}
 use Rattle.form.proofs.Laws.{Staying, form-any}
 use Rattle.in_form.specs.InForm.{sideFrom, Apart, Follows, InForm}
 
--- ---- the answers
+-- ---- the answers of a test
 pub yes : {A : Type 0} → A → (true ≡ true) ↔ A
 yes a = (λ _. a, λ _. refl)
 
@@ -58,6 +58,7 @@ module _ (side : ℕ → ℕ) (k : ℕ) (before : Orderly side k) where
       below-more (λ (j : ℕ). 1 ≤ j → Follows side j) k (λ j h p. before j p h)
       (λ p. record { above = rw (← low, ← here) above; apart = rw (← here) apart }) i l m
 
+  -- it is the last one then
   pub next-last : {set : ℕ} → set ≡ side k → set ≡ side (k + 1 - 1)
   next-last here = let same : k + 1 - 1 ≡ k = omega arith in rw same here
 
@@ -118,11 +119,12 @@ module _ (n : ℕ) (side : ℕ → ℕ) (s : Side n side) (f : InForm side) wher
       (λ e. let other : f .count ≡ suc k → ⊥ = eqb-false (f .count) (suc k) e in
       unused (side (suc k)) (fails _ (λ u. clash (s .packed k (omega arith) u) (rw (behind k (omega arith) (omega arith)) nothing))))
 
+  -- none before it lies within it, the first set too
   apart : (k : ℕ) → k < f .count → Apart side k (side k)
   apart zero l j m = absurd (not-suc-le-zero m)
   apart (suc k) l j m = f .each (suc k) (omega arith) l .apart j m
 
-  -- a set before it does not lie within it, and one behind it is greater
+  -- so no other lies within it: one behind it is greater
   alone : (k : ℕ) → k < f .count → containsAnother side (side k) ≡ false
   unfolding containsAnother holdsPlace
   alone k l =
@@ -188,6 +190,7 @@ module _ (n : ℕ) (side : ℕ → ℕ) (l : List ℕ) (s : Side n side) (filled
       }
 
 -- ---- both sides
+-- what a slice of bytes tells of each byte, for all
 each-byte : (l : List ℕ) → ((i : ℕ) → getD l i 0 < 256) → AreBytes l
 each-byte [] h = tt
 each-byte (x ∷ l) h = (h 0, each-byte l (λ i. h (suc i)))

@@ -19,7 +19,7 @@ pub record Follows (side : ℕ → ℕ) (k : ℕ) : Type 0 where
   pub above : side (k - 1) < side k
   pub apart : Apart side k (side k)
 
--- so do the first sets, as many as the count says, and no more or an unused place comes behind them
+-- each of the first sets, as many as the count says, follows those before it; they fill the side, or an unused place comes behind them
 pub record InForm (side : ℕ → ℕ) : Type 0 where
   pub count : ℕ
   pub some : 1 ≤ count
