@@ -6,7 +6,7 @@
  * A sheet is a configuration as 64 digits, as votes prints it and as a lay frame
  * has it. Prints the sets of each sheet and of its standard form, and whether
  * both are for one house: then the standard forms are equal, byte for byte, and
- * one table laid with either is the same. If not, it prints what passes by one
+ * a table laid with either is the same. If not, it prints what passes by one
  * sheet alone. The exit status is 0 if they are for one house, 1 if not, and 2
  * if a sheet is refused or cannot be read.
  */
@@ -84,6 +84,16 @@ static int passes(const configuration *c, int side, unsigned stations)
     return 0;
 }
 
+/* How many places there are up to the last used one: a gap before it is shown. */
+static int places_of(const configuration *c, int side)
+{
+    int places = OSPREYSCREEN_SETS_PER_SIDE;
+    while (places > 0 && set_in(c, side, places - 1) == 0) {
+        places--;
+    }
+    return places;
+}
+
 static void print_sets(const char *what, const configuration *c)
 {
     static const char *const sides[SIDES] = {" read", ", write"};
@@ -91,10 +101,8 @@ static void print_sets(const char *what, const configuration *c)
     printf("%s", what);
     for (int side = 0; side < SIDES; side++) {
         printf("%s", sides[side]);
-        for (int place = 0; place < OSPREYSCREEN_SETS_PER_SIDE; place++) {
-            if (set_in(c, side, place) != 0) {
-                printf(" %04X", set_in(c, side, place));
-            }
+        for (int place = 0; place < places_of(c, side); place++) {
+            printf(" %04X", set_in(c, side, place));
         }
     }
     printf("\n");

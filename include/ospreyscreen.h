@@ -192,7 +192,7 @@ ospreyscreen_reply ospreyscreen_open_change(uint8_t *table, size_t len, uint64_t
  * highest generation among the polled copies, the lowest station's on equal
  * generations; a used place is held if all stations of its set are polled.
  * Places are those of the configuration as it is stored: of its standard form,
- * unless a library before 0.7 has stored it.
+ * unless a library before 0.7 laid it or opened its change.
  * The round is heard if a place is held, so if this figure is not 0.
  * Refusals: 1 table, 2 station, 5 no round, 6 the station is off,
  * 7 a put set is not empty.

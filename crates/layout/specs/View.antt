@@ -44,7 +44,7 @@ view t =
 abbrev pub onBus : State → ℕ
 onBus v = minus (full (v .n)) (v .off)
 
--- two states of the same stations and items, with the same head and the same copies of them
+-- two states of the same stations and items, with the same head and the same copies of them (`ContentsBy` of equality, below, by whole records)
 pub record SameContents (v w : State) : Type 0 where
   pub n : v .n ≡ w .n
   pub m : v .m ≡ w .m

@@ -1,6 +1,7 @@
 mod Respelled
 mod InForm
 mod Before
+mod Houses
 mod Spellings
 mod Votes
 mod StandardForm

@@ -2,6 +2,7 @@
 use mathlib.Core.Path.{_≡_, refl, sym, ap, _∙_}
 use mathlib.Core.Bool.{true, not, cond}
 use mathlib.Core.List.{List, [], _∷_}
+use mathlib.Core.Logic.{_↔_}
 use Prim.Native.Nat.{ℕ}
 use lib.Dec.{eqb}
 use borrow.Author.Tests.{eqb-true, eq-eqb, ne-eqb}
@@ -25,14 +26,16 @@ use Rattle.rules.specs.Rules.{first, tests, refusals, numberOf, noSize, noItem,
 use Rattle.rules.specs.Figures.{figuresOf, oneFigure}
 use Rattle.rules.specs.After.{done}
 use Rattle.rules.specs.Needs.{needs}
+use Rattle.rules.specs.Passed.{Passable}
 use Rattle.rules.specs.Reply.{answer, replyOf, reply, after}
 use Rattle.rules.specs.Lists.{replies, afterAll, AllPassable}
 use Rattle.rules.proofs.Laws.{done-allowed, next-view, bytes-kept}
 use Rattle.rules.proofs.Kept.{after-sound, stays-sound}
 use Rattle.rules.proofs.Alike.{AlikeBy, Agree, reply-alike, all-alike}
 use Rattle.spelling.specs.Spellings.{SameCall, the-same, of-lay, of-change, SameCalls, SameHouse, respelled, anyPlace, butForPlace}
-use Rattle.spelling.specs.Spellings.{SameReplies, Spellings}
+use Rattle.spelling.specs.Spellings.{Leaves, now, given-laid, given-target, AllLeave, ends, next, SameReplies, Spellings}
 use Rattle.spelling.proofs.Before.{lay-before, change-before}
+use Rattle.spelling.proofs.Houses.{house-back, house-on}
 use Rattle.spelling.proofs.InForm.{respelled-in-form, unchanged, all-in-form, laid-in-form, in-form-like}
 use Rattle.spelling.proofs.Respelled.{respelled-bytes, respelled-length, respelled-contents, respelled-sound, respelled-passes}
 
@@ -130,13 +133,18 @@ module _ (t u : Table) (h : SameHouse t u) where
         contents = all-alike spelled-agree t u calls (b .0) (b .1) p (alike t u h) .contents;
       }
 
+  -- one call
+  same-after : (c : Call) → Passable c → SameHouse (after t c) (after u c)
+  unfolding afterAll
+  same-after c p = stays-same (c ∷ []) (p, tt)
+
   same-replies : SameReplies t u
   same-replies calls p c =
       reply-alike spelled-agree _ _ (alike (afterAll t calls) (afterAll u calls) (stays-same calls p)) (λ s. is-sound (afterAll t calls) s .item) c
 
 -- ---- tables respelled
-one-respelling : (t u : Table) → SameHouse t u → respelled t ≡ respelled u
-one-respelling t u h =
+same-respelled : (t u : Table) → SameHouse t u → respelled t ≡ respelled u
+same-respelled t u h =
     let st = h .areSound .0 in
     let su = h .areSound .1 in
     let same = h .contents in
@@ -175,8 +183,8 @@ one-respelling t u h =
 house : (t : Table) → AreBytes t → sound t ≡ true → SameHouse t (respelled t)
 house t b s = record { bytes = (b, respelled-bytes t b); areSound = (s, respelled-sound t s); contents = respelled-passes t s }
 
-other-way : (t u : Table) → SameReplies t u → SameReplies u t
-other-way t u h calls p c = sym (h calls p c)
+one-respelling : (t u : Table) → AreBytes t → AreBytes u → sound t ≡ true → sound u ≡ true → SameHouse t u ↔ (respelled t ≡ respelled u)
+one-respelling t u bt bu st su = (same-respelled t u, λ e. house-on (rw e at (house t bt st)) (house-back (house u bu su)))
 
 respelled-after : (t : Table) (calls : List Call) → AreBytes t → sound t ≡ true → AllPassable calls
     → afterAll (respelled t) calls ≡ respelled (afterAll t calls)
@@ -184,7 +192,7 @@ respelled-after t calls b s p =
     let h = stays-same t (respelled t) (house t b s) calls p in
     sym (unchanged (afterAll (respelled t) calls) (h .bytes .1) (h .areSound .1)
     (all-in-form (respelled t) calls (respelled-bytes t b) p (respelled-in-form t s)))
-    ∙ sym (one-respelling (afterAll t calls) (afterAll (respelled t) calls) h)
+    ∙ sym (same-respelled (afterAll t calls) (afterAll (respelled t) calls) h)
 
 always-in-form : (t : Table) (n m value : ℕ) (config : List ℕ) (calls : List Call) → AreBytes t → AllPassable (lay n m value config ∷ calls)
     → reply t (lay n m value config) .number ≡ 0
@@ -196,6 +204,20 @@ always-in-form t n m value config calls b p e =
     let bu = bytes-kept t c b (p .0) in
     unchanged (afterAll u calls) (all-bytes u calls bu (p .1)) (all-sound u calls bu (p .1) (after-sound t c b (p .0) e))
     (all-in-form u calls bu (p .1) (in-form-like _ _ (next-view t c e b (p .0)) (laid-in-form (view t) n m value config (done-allowed t c e))))
+
+-- ---- the store before this request
+-- a call on tables of one house, by either store
+step-before : (t u w : Table) (c : Call) → SameHouse t u → Passable c → Leaves t c w → SameHouse w (after u c)
+step-before t u _ c h p now = same-after t u h c p
+step-before t u _ _ h p (given-laid {n = n} {m = m} {value = value} {config = config} e) =
+    house-on (lay-before t n m value config (h .bytes .0) p e) (same-after t u h (lay n m value config) p)
+step-before t u _ _ h p (given-target {i = i} {target = target} e) =
+    house-on (change-before t i target (h .bytes .0) p e) (same-after t u h (openChange i target) p)
+
+as-before : (t u w : Table) (calls : List Call) → SameHouse t u → AllPassable calls → AllLeave t calls w → SameHouse w (afterAll u calls)
+unfolding afterAll
+as-before t u _ [] h p ends = h
+as-before t u w (c ∷ calls) h p (next {u = v} one rest) = as-before v (after u c) w calls (step-before t u v c h (p .0) one) (p .1) rest
 
 pub spellings : Spellings
 spellings =
@@ -209,8 +231,8 @@ spellings =
       respelled-sound = respelled-sound;
       respelled-length = respelled-length;
       respelled-bytes = respelled-bytes;
-      no-harm = λ t b s. other-way t (respelled t) (same-replies t (respelled t) (house t b s));
+      no-harm = λ t b s. same-replies (respelled t) t (house-back (house t b s));
       respelled-after = respelled-after;
       lay-before = lay-before;
-      change-before = change-before;
+      as-before = as-before;
     }

@@ -5,6 +5,7 @@
 use mathlib.Core.Path.{_≡_}
 use mathlib.Core.Bool.{true, cond}
 use mathlib.Core.List.{List, [], _∷_}
+use mathlib.Core.Logic.{_↔_}
 use Prim.Native.Nat.{ℕ, zero, suc, _+_, _*_}
 use lib.Dec.{eqb}
 use lib.ListN.{length}
@@ -25,15 +26,15 @@ use Rattle.rules.specs.declared.Reply.{Reply}
 
 -- ---- calls
 -- two configurations come to the same for n stations: both are valid and have one form, or neither is valid
-pub record OneForm (n : ℕ) (c d : List ℕ) : Type 0 where
+pub record JudgedAlike (n : ℕ) (c d : List ℕ) : Type 0 where
   pub judged : valid n c ≡ valid n d
   pub form : valid n c ≡ true → standardForm n c ≡ standardForm n d
 
 -- the same call, to a table of n stations, but for how a configuration is spelled; that of a lay is judged by the lay's own stations
 pub data SameCall (n : ℕ) : Call → Call → Type 0 where
   the-same : {c : Call} → SameCall n c c
-  of-lay : {k m value : ℕ} {config other : List ℕ} → OneForm k config other → SameCall n (lay k m value config) (lay k m value other)
-  of-change : {i : ℕ} {target other : List ℕ} → OneForm n target other → SameCall n (openChange i target) (openChange i other)
+  of-lay : {k m value : ℕ} {config other : List ℕ} → JudgedAlike k config other → SameCall n (lay k m value config) (lay k m value other)
+  of-change : {i : ℕ} {target other : List ℕ} → JudgedAlike n target other → SameCall n (openChange i target) (openChange i other)
 
 -- two lists of such calls: a target is judged by the stations of the table that its call comes to
 abbrev pub SameCalls : Table → List Call → List Call → Type 0
@@ -64,6 +65,18 @@ respellTo n t (suc k) = over (respellTo n t k) (configAt k) (standardForm n (par
 -- all of them are
 abbrev pub respelled : Table → Table
 respelled t = respellTo (view t .n) t (1 + view t .n * view t .m)
+
+-- what a call leaves, now or before this request, when lay and open change stored the configuration as it was given
+pub data Leaves (t : Table) : Call → Table → Type 0 where
+  now : {c : Call} → Leaves t c (after t c)
+  given-laid : {n m value : ℕ} {config : List ℕ} → reply t (lay n m value config) .number ≡ 0 → Leaves t (lay n m value config) (laid n m value config)
+  given-target : {i : ℕ} {target : List ℕ} → reply t (openChange i target) .number ≡ 0
+      → Leaves t (openChange i target) (setRound t (kindByte change) i 0 target)
+
+-- and what a list of calls leaves, one store or the other at each call
+pub data AllLeave : Table → List Call → Table → Type 0 where
+  ends : {t : Table} → AllLeave t [] t
+  next : {t u w : Table} {c : Call} {calls : List Call} → Leaves t c u → AllLeave u calls w → AllLeave t (c ∷ calls) w
 
 -- ---- replies
 -- whether there is a read place, of the figure that shows which it is
@@ -102,19 +115,19 @@ pub record Spellings : Type 0 where
   -- tables of one house get the same replies, and stay of one house
   pub same-replies : (t u : Table) → SameHouse t u → SameReplies t u
   pub stays-same : (t u : Table) (calls : List Call) → SameHouse t u → AllPassable calls → SameHouse (afterAll t calls) (afterAll u calls)
-  -- respelled they compare byte for byte
-  pub one-respelling : (t u : Table) → SameHouse t u → respelled t ≡ respelled u
+  -- two sound tables of bytes are of one house exactly if they are the same bytes once respelled
+  pub one-respelling : (t u : Table) → AreBytes t → AreBytes u → sound t ≡ true → sound u ≡ true → SameHouse t u ↔ (respelled t ≡ respelled u)
   -- a sound table respelled has the same contents, each configuration in its form, and is sound
   pub respelled-contents : (t : Table) → sound t ≡ true → ContentsBy (λ c d. d ≡ standardForm (view t .n) c) (view t) (view (respelled t))
   pub respelled-sound : (t : Table) → sound t ≡ true → sound (respelled t) ≡ true
   pub respelled-length : (t : Table) → sound t ≡ true → length (respelled t) ≡ length t
   pub respelled-bytes : (t : Table) → AreBytes t → AreBytes (respelled t)
-  -- "Older spellings" do no harm: it gets the same replies, and calls leave the same bytes on it as if it were respelled after them
+  -- "Older spellings" do no harm: it gets the same replies, and to respell it before the calls or after them leaves the same bytes
   pub no-harm : (t : Table) → AreBytes t → sound t ≡ true → SameReplies (respelled t) t
   pub respelled-after : (t : Table) (calls : List Call) → AreBytes t → sound t ≡ true → AllPassable calls
       → afterAll (respelled t) calls ≡ respelled (afterAll t calls)
-  -- "commits reply as before": what lay and open change left when they stored the configuration as it was given is a table of the same house
+  -- "commits reply as before": what lay left when it stored the configuration as it was given is a table of the same house, and so is, from tables of one
+  -- house on, what every list of calls leaves, whichever store each call is made with; so the replies are the same
   pub lay-before : (t : Table) (n m value : ℕ) (config : List ℕ) → AreBytes t → Passable (lay n m value config) → reply t (lay n m value config) .number ≡ 0
       → SameHouse (laid n m value config) (after t (lay n m value config))
-  pub change-before : (t : Table) (i : ℕ) (target : List ℕ) → AreBytes t → Passable (openChange i target) → reply t (openChange i target) .number ≡ 0
-      → SameHouse (setRound t (kindByte change) i 0 target) (after t (openChange i target))
+  pub as-before : (t u w : Table) (calls : List Call) → SameHouse t u → AllPassable calls → AllLeave t calls w → SameHouse w (afterAll u calls)
