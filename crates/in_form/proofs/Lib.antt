@@ -1,1 +1,1 @@
-mod Ordered
+pub mod Ordered

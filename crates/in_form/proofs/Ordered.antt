@@ -195,28 +195,29 @@ each-byte : (l : List ℕ) → ((i : ℕ) → getD l i 0 < 256) → AreBytes l
 each-byte [] h = tt
 each-byte (x ∷ l) h = (h 0, each-byte l (λ i. h (suc i)))
 
+-- the side at the first place is that of the read sets, and the one at the ninth that of the write sets
+pub reads-from : (c : List ℕ) → sideFrom c 0 ≡ readSet c
+unfolding readSet
+reads-from c = fun-ext (λ k. ap (setAt c) (zero-add k))
+
+pub writes-from : (c : List ℕ) → sideFrom c 8 ≡ writeSet c
+unfolding writeSet
+writes-from c = refl
+
 module _ (n : ℕ) (c : List ℕ) (v : valid n c ≡ true) where
   abbrev facts : Valid n c
   facts = promise .valid-exactly n c .0 v
 
-  reads-from : sideFrom c 0 ≡ readSet c
-  unfolding readSet
-  reads-from = fun-ext (λ k. ap (setAt c) (zero-add k))
-
-  writes-from : sideFrom c 8 ≡ writeSet c
-  unfolding writeSet
-  writes-from = refl
-
   pub in-form : ((i : ℕ) → getD c i 0 < 256) → InForm (sideFrom c 0) → InForm (sideFrom c 8) → standardForm 16 c ≡ c
   in-form b reads writes =
       sym (form-any n c v)
-      ∙ own-config n c v (each-byte c b) _ _ (formed n (readSet c) (facts .reads) (transport (ap InForm reads-from) reads))
-      (formed n (writeSet c) (facts .writes) (transport (ap InForm writes-from) writes))
+      ∙ own-config n c v (each-byte c b) _ _ (formed n (readSet c) (facts .reads) (transport (ap InForm (reads-from c)) reads))
+      (formed n (writeSet c) (facts .writes) (transport (ap InForm (writes-from c)) writes))
 
   pub reads-in-form : standardForm 16 c ≡ c → InForm (sideFrom c 0)
   reads-in-form own =
-      transport (ap InForm (sym reads-from)) (filled-form n (readSet c) _ (facts .reads) (reads-filled n c v (form-any n c v ∙ own)))
+      transport (ap InForm (sym (reads-from c))) (filled-form n (readSet c) _ (facts .reads) (reads-filled n c v (form-any n c v ∙ own)))
 
   pub writes-in-form : standardForm 16 c ≡ c → InForm (sideFrom c 8)
   writes-in-form own =
-      transport (ap InForm (sym writes-from)) (filled-form n (writeSet c) _ (facts .writes) (writes-filled n c v (form-any n c v ∙ own)))
+      transport (ap InForm (sym (writes-from c))) (filled-form n (writeSet c) _ (facts .writes) (writes-filled n c v (form-any n c v ∙ own)))

@@ -1,9 +1,9 @@
 -- Tables of one house: taken the other way round, and one after the other.
-use mathlib.Core.Path.{_≡_, sym, _∙_}
+use mathlib.Core.Path.{sym, _∙_}
 use mathlib.Core.List.{List}
 use Prim.Native.Nat.{ℕ}
 use Rattle.quorum.specs.Promise.{SamePasses}
-use Rattle.layout.specs.View.{Table, State, view, CopyBy, RoundBy, ContentsBy}
+use Rattle.layout.specs.View.{Table, State, ContentsBy}
 use Rattle.spelling.specs.Spellings.{SameHouse}
 
 passes-back : {c d : List ℕ} → SamePasses c d → SamePasses d c
