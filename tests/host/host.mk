@@ -219,13 +219,13 @@ test-faults: $(FAULTY_DIFFERENTIAL) $(FAULTY_VOTES) $(FAULTY_FORM)
 	$(TEST_FAULTS) --objects $(call quote,$(FAULTY_DIFFERENTIAL)) --reference reference --faults faults
 
 # Each instruction of the library with a fault in it; some faults change nothing, and survive. What has vote or
-# standard in its name is no part of the calls on a table alone, and has a test of its own.
+# form in its name is no part of the calls on a table alone, and has a test of its own.
 TEST_MACHINE = python3 tests/host/test_machine_faults.py $(1) $(if $(LIB),$(ARCHIVE),"a library is needed") \
     --out $(BIN)/machine-faults --seed $(SEED) --calls $(CALLS) --most $(MOST_SURVIVORS) --functions $(call quote,$(2))
 test-machine: $(BIN)/plain/differential $(BIN)/plain/votes_trial $(BIN)/plain/form_trial
 	$(call TEST_MACHINE,$(BIN)/plain/votes_trial,vote)
-	$(call TEST_MACHINE,$(BIN)/plain/form_trial,standard)
-	$(call TEST_MACHINE,$(BIN)/plain/differential,^(?!.*(vote|standard)))
+	$(call TEST_MACHINE,$(BIN)/plain/form_trial,form)
+	$(call TEST_MACHINE,$(BIN)/plain/differential,^(?!.*(vote|form)))
 
 season: build
 	@echo "$@: seed $(SEED)"
