@@ -32,4 +32,4 @@ unfolding all allBelow anyBelow littleEndian
     bytesOf over setOff setPolled setPuts setRound putData putConfig copyBytes repeated putCopies
     passing pollsNeeded putsNeeded
     first tests refusals numberOf figuresOf done replyOf after replies table lastOf
-cases = refl
+cases = record { rows = refl; sheet-form = refl; in-older = refl; in-newer = refl }

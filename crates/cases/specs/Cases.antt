@@ -6,7 +6,10 @@ use mathlib.Core.List.{List, [], _∷_, _++_}
 use mathlib.Core.Option.{Option, none, some}
 use Prim.Native.Nat.{ℕ}
 use lib.ListN.{replicate}
+use Rattle.form.specs.Form.{standardForm}
 use Rattle.layout.specs.Layout.{tableLength}
+use Rattle.layout.specs.View.{Table}
+use Rattle.layout.specs.Updates.{setOff, laid}
 use Rattle.rules.specs.Calls.{Call, lay, openRead, openWrite, openChange, poll, put, commit, abandon, link, reach, diagnose, plan}
 use Rattle.rules.specs.Calls.{dataSort, configSort, offState, onState}
 use Rattle.rules.specs.Lists.{replies}
@@ -95,20 +98,24 @@ fifth = side 16 0 0 ++ side 16 0 0
 abbrev pub movesToFifth : List Call
 movesToFifth = openChange 0 fifth ∷ poll 0 ∷ poll 1 ∷ poll 2 ∷ poll 3 ∷ dataPut 4 ∷ configPut 3 ∷ commit ∷ []
 
+-- a reply: its number and three figures
+abbrev pub gets : ℕ → ℕ → ℕ → ℕ → Reply
+gets number first second third = record { number = number; first = first; second = second; third = third }
+
 -- ---- rows: the stations and the configuration of a lay, the calls after it, and what the last of them gets, its number and three figures
 pub record Row : Type 0 where
   pub stations : ℕ
   pub config : List ℕ
   pub calls : List Call
-  pub gets : Reply
+  pub reply : Reply
 
-abbrev pub house : ℕ → List ℕ → List Call → ℕ → ℕ → ℕ → ℕ → Row
-house n config calls number first second third =
-    record { stations = n; config = config; calls = calls; gets = record { number = number; first = first; second = second; third = third } }
+abbrev pub laidWith : ℕ → List ℕ → List Call → ℕ → ℕ → ℕ → ℕ → Row
+laidWith n config calls number first second third =
+    record { stations = n; config = config; calls = calls; reply = gets number first second third }
 
 -- "Three stations, one item, start 500, pair sets", just laid
 abbrev pub unwired : List Call → ℕ → ℕ → ℕ → ℕ → Row
-unwired = house 3 pairs
+unwired = laidWith 3 pairs
 
 -- and with its stations linked: "starred cases relied on the old default and gain a link call per station"
 abbrev pub row : List Call → ℕ → ℕ → ℕ → ℕ → Row
@@ -116,11 +123,11 @@ row calls = unwired (returns 0 ∷ returns 1 ∷ returns 2 ∷ calls)
 
 -- the house of four, with its stations linked and its sets moved
 abbrev pub moved : List Call → ℕ → ℕ → ℕ → ℕ → Row
-moved calls = house 4 fromPair (returns 0 ∷ returns 1 ∷ returns 2 ∷ returns 3 ∷ moves ++ calls)
+moved calls = laidWith 4 fromPair (returns 0 ∷ returns 1 ∷ returns 2 ∷ returns 3 ∷ moves ++ calls)
 
 -- the house of five, with its stations linked
 abbrev pub five : List Call → ℕ → ℕ → ℕ → ℕ → Row
-five calls = house 5 firstFour (returns 0 ∷ returns 1 ∷ returns 2 ∷ returns 3 ∷ returns 4 ∷ calls)
+five calls = laidWith 5 firstFour (returns 0 ∷ returns 1 ∷ returns 2 ∷ returns 3 ∷ returns 4 ∷ calls)
 
 unfoldable pub table : List Row
 table =
@@ -205,7 +212,7 @@ table =
     -- the newest configuration on the bus, not that of the lowest station: with configuration puts 1, 2 station 0 still has the pairs, which 0, 1 would hold
     ∷ row (round (openChange 0 single) (dataPut 2 ∷ configPut 1 ∷ configPut 2 ∷ commit ∷ drops 2 ∷ reach 0 ∷ [])) 0 0 0 0
     -- a write set alone: read 0003, write 0002, and station 1 on the bus
-    ∷ house 2 (side 3 0 0 ++ side 2 0 0) (returns 1 ∷ reach 0 ∷ []) 0 0 0 0
+    ∷ laidWith 2 (side 3 0 0 ++ side 2 0 0) (returns 1 ∷ reach 0 ∷ []) 0 0 0 0
     -- ---- "Why a round will not close"
     -- poll shows one plus the first read place held: {0, 2} is that of 0005, {1, 2} that of 0006, and all three stations hold that of 0003 first
     ∷ row (openRead 0 ∷ poll 0 ∷ poll 2 ∷ []) 0 2 0 0
@@ -244,13 +251,13 @@ table =
     ∷ unwired (returns 1 ∷ plan 0 ∷ []) 15 0 0 0
     -- stations off the bus are not counted: {1, 2}; and {0, 3} of the house of four that reads and writes at 3, where with all on it takes four
     ∷ row (drops 0 ∷ plan 0 ∷ []) 0 2 2 0
-    ∷ house 4 (side 8 0 0 ++ side 8 0 0) (returns 0 ∷ returns 3 ∷ plan 0 ∷ []) 0 2 2 0
-    ∷ house 4 (side 8 0 0 ++ side 8 0 0) (returns 0 ∷ returns 1 ∷ returns 2 ∷ returns 3 ∷ plan 0 ∷ []) 0 4 4 0
+    ∷ laidWith 4 (side 8 0 0 ++ side 8 0 0) (returns 0 ∷ returns 3 ∷ plan 0 ∷ []) 0 2 2 0
+    ∷ laidWith 4 (side 8 0 0 ++ side 8 0 0) (returns 0 ∷ returns 1 ∷ returns 2 ∷ returns 3 ∷ plan 0 ∷ []) 0 4 4 0
     -- the puts are counted from the same start, also beyond the polls: read {0}, write {0, 1, 2}; and read {0, 1, 2}, write {0}
-    ∷ house 3 (side 1 0 0 ++ side 7 0 0) (returns 0 ∷ returns 1 ∷ returns 2 ∷ plan 0 ∷ []) 0 1 3 0
-    ∷ house 3 (side 7 0 0 ++ side 1 0 0) (returns 0 ∷ returns 1 ∷ returns 2 ∷ plan 0 ∷ []) 0 3 1 0
+    ∷ laidWith 3 (side 1 0 0 ++ side 7 0 0) (returns 0 ∷ returns 1 ∷ returns 2 ∷ plan 0 ∷ []) 0 1 3 0
+    ∷ laidWith 3 (side 7 0 0 ++ side 1 0 0) (returns 0 ∷ returns 1 ∷ returns 2 ∷ plan 0 ∷ []) 0 3 1 0
     -- "this second figure is 0 if none can": no write set on the bus, which is not 15
-    ∷ house 3 (side 1 0 0 ++ side 7 0 0) (returns 0 ∷ returns 1 ∷ plan 0 ∷ []) 0 1 0 0
+    ∷ laidWith 3 (side 1 0 0 ++ side 7 0 0) (returns 0 ∷ returns 1 ∷ plan 0 ∷ []) 0 1 0 0
     -- the house whose sets moved: 0 and 1 know that 2 reads, and 2 and 3 write; with neither of them nothing is heard, and without 3 nothing is written
     ∷ moved (plan 0 ∷ []) 0 3 4 0
     ∷ moved (drops 0 ∷ plan 0 ∷ []) 0 2 3 0
@@ -269,20 +276,21 @@ table =
     ∷ row (round (openWrite 0 510) (dataPut 2 ∷ drops 0 ∷ plan 0 ∷ [])) 0 2 2 0
     -- ---- "One spelling of a configuration"
     -- "read places follow the stored form": 0006 stands first on the sheet, and second in the form; in poll and in diagnose, after a lay and after a change
-    ∷ house 3 sheet (returns 1 ∷ returns 2 ∷ openRead 0 ∷ poll 1 ∷ poll 2 ∷ []) 0 2 0 0
-    ∷ house 3 sheetForm (returns 1 ∷ returns 2 ∷ openRead 0 ∷ poll 1 ∷ poll 2 ∷ []) 0 2 0 0
-    ∷ house 3 sheet (returns 1 ∷ returns 2 ∷ openRead 0 ∷ poll 1 ∷ poll 2 ∷ diagnose ∷ []) 0 0 2 2
+    ∷ laidWith 3 sheet (returns 1 ∷ returns 2 ∷ openRead 0 ∷ poll 1 ∷ poll 2 ∷ []) 0 2 0 0
+    ∷ laidWith 3 sheetForm (returns 1 ∷ returns 2 ∷ openRead 0 ∷ poll 1 ∷ poll 2 ∷ []) 0 2 0 0
+    ∷ laidWith 3 sheet (returns 1 ∷ returns 2 ∷ openRead 0 ∷ poll 1 ∷ poll 2 ∷ diagnose ∷ []) 0 0 2 2
     ∷ row (changesToSheet ++ (openRead 0 ∷ poll 1 ∷ poll 2 ∷ [])) 0 2 0 0
     ∷ row (changesToSheet ++ (openRead 0 ∷ poll 1 ∷ poll 2 ∷ diagnose ∷ [])) 0 0 2 2
-    -- "drop a set that contains another of its side, keep one of equals": of 0008, 0007, 0003 and of 0003, 0008, 0003 stays 0003, 0008
-    ∷ house 4 (side 8 7 3 ++ side 9 9 0) (returns 3 ∷ openRead 0 ∷ poll 3 ∷ []) 0 2 0 0
-    ∷ house 4 (side 3 8 3 ++ side 9 9 0) (returns 3 ∷ openRead 0 ∷ poll 3 ∷ []) 0 2 0 0
+    -- "drop a set that contains another of its side, keep one of equals": of 0008, 0007, 0003, of 0003, 0007, 0008 and of 0003, 0008, 0003 stays 0003, 0008
+    ∷ laidWith 4 (side 8 7 3 ++ side 9 9 0) (returns 3 ∷ openRead 0 ∷ poll 3 ∷ []) 0 2 0 0
+    ∷ laidWith 4 (side 3 7 8 ++ side 9 9 0) (returns 3 ∷ openRead 0 ∷ poll 3 ∷ []) 0 2 0 0
+    ∷ laidWith 4 (side 3 8 3 ++ side 9 9 0) (returns 3 ∷ openRead 0 ∷ poll 3 ∷ []) 0 2 0 0
     -- the same sets pass: {0, 1} reads too, {0, 2} does not, and a put at 1 alone is enough for a write
-    ∷ house 3 sheet (returns 0 ∷ returns 1 ∷ openRead 0 ∷ poll 0 ∷ poll 1 ∷ []) 0 1 0 0
-    ∷ house 3 sheet (returns 0 ∷ returns 2 ∷ openRead 0 ∷ poll 0 ∷ poll 2 ∷ []) 0 0 0 0
-    ∷ house 3 sheet (returns 1 ∷ returns 2 ∷ openWrite 0 510 ∷ poll 1 ∷ poll 2 ∷ dataPut 1 ∷ commit ∷ []) 0 510 1 0
+    ∷ laidWith 3 sheet (returns 0 ∷ returns 1 ∷ openRead 0 ∷ poll 0 ∷ poll 1 ∷ []) 0 1 0 0
+    ∷ laidWith 3 sheet (returns 0 ∷ returns 2 ∷ openRead 0 ∷ poll 0 ∷ poll 2 ∷ []) 0 0 0 0
+    ∷ laidWith 3 sheet (returns 1 ∷ returns 2 ∷ openWrite 0 510 ∷ poll 1 ∷ poll 2 ∷ dataPut 1 ∷ commit ∷ []) 0 510 1 0
     -- 3 is judged on the sheet as it is given: a set that would be dropped names station 2 of two, and one of two equals stands behind an unused place
-    ∷ house 2 (side 1 5 0 ++ side 1 0 0) [] 3 0 0 0
+    ∷ laidWith 2 (side 1 5 0 ++ side 1 0 0) [] 3 0 0 0
     ∷ row (openChange 0 (side 1 0 1 ++ side 1 0 0) ∷ []) 3 0 0 0
     ∷ []
 
@@ -299,8 +307,29 @@ got (r ∷ rows) = lastOf (replies (replicate (tableLength (r .stations) 1) 7) (
 
 abbrev pub expected : List Row → List (Option Reply)
 expected [] = []
-expected (r ∷ rows) = some (r .gets) ∷ expected rows
+expected (r ∷ rows) = some (r .reply) ∷ expected rows
 
--- the theorem: each row gets the reply that it names
-abbrev pub Cases : Type 0
-Cases = got table ≡ expected table
+-- ---- an older spelling: the sheet as it was stored before 2026-06, with all stations on the bus, and its form
+abbrev pub older : Table
+older = setOff (laid 3 1 500 sheet) 0
+
+abbrev pub newer : Table
+newer = setOff (laid 3 1 500 sheetForm) 0
+
+-- a read of {1, 2}: the polls, what holds it up, the commit
+abbrev pub readsSecond : List Call
+readsSecond = openRead 0 ∷ poll 1 ∷ poll 2 ∷ diagnose ∷ commit ∷ []
+
+-- what it gets where the polls hold a place with this figure
+abbrev pub gotBy : ℕ → List Reply
+gotBy place = gets 0 0 0 0 ∷ gets 0 0 0 0 ∷ gets 0 place 0 0 ∷ gets 0 0 2 place ∷ gets 0 500 0 0 ∷ []
+
+-- the theorem
+pub record Cases : Type 0 where
+  -- each row gets the reply that it names
+  pub rows : got table ≡ expected table
+  -- the form of the sheet is the one named
+  pub sheet-form : standardForm 3 sheet ≡ sheetForm
+  -- "Older spellings in a table stay sound, and commits reply as before; read places follow the stored form"
+  pub in-older : replies older readsSecond ≡ gotBy 1
+  pub in-newer : replies newer readsSecond ≡ gotBy 2

@@ -10,6 +10,7 @@ use lib.ListN.{length, getD, replicate, getD-replicate}
 use borrow.Author.Tests.{ltb-true}
 use Rattle.basics.specs.Bytes.{bytesOf, AreBytes}
 use Rattle.basics.specs.Listing.{Listing}
+use Rattle.basics.specs.Tests.{Some}
 use Rattle.basics.proofs.Tests.{clash, same-test, and-left, and-right}
 use Rattle.basics.proofs.Bytes.{number-two}
 use Rattle.basics.proofs.Listing.{same-listing, listing, passing-same, passing-grows, passing-places, same-numbers}
@@ -17,7 +18,7 @@ use Rattle.quorum.specs.Sets.{member, used, within}
 use Rattle.quorum.specs.Configurations.{configSize, setAt, readSet, writeSet, valid, holdsRead, holdsWrite}
 use Rattle.quorum.specs.Promise.{_⊆_, QuorumIn, SamePasses, Side, Valid}
 use Rattle.quorum.proofs.Promise.{promise}
-use Rattle.form.specs.Sides.{places, sideBytes, configBytes, Lists}
+use Rattle.form.specs.Sides.{places, sideBytes, configBytes, SideLists}
 use Rattle.form.specs.Form.{isSetOf, stays, formSets, standardForm, SmallestOf}
 use Rattle.form.proofs.Places.{places-same, length-config, bytes-config, read-back, written-back}
 use Rattle.form.proofs.Sides.{same-lists, Filled, two-bytes, lists, packed}
@@ -55,7 +56,7 @@ module _ (n : ℕ) (side : ℕ → ℕ) (few : n ≤ 16) (s : Side n side) where
     form-filled =
         record { listed = form-listing; room = form-room; place = λ k l. back k l (two-bytes n (Staying side) _ few form-listing stays-within k) }
 
-    pub form-lists : Lists (Staying side) form
+    pub form-lists : SideLists (Staying side) form
     form-lists = lists form-filled
 
     pub form-quorum : (set : ℕ) → QuorumIn form set ↔ QuorumIn side set
@@ -83,7 +84,7 @@ module _ (n : ℕ) (side : ℕ → ℕ) (few : n ≤ 16) (s : Side n side) where
       form-passing set =
           same-test _ _ (λ e. asks set .1 (form-quorum set .0 (asks-form set .0 e))) (λ e. asks-form set .1 (form-quorum set .1 (asks set .0 e)))
 
-      pub form-smallest : Lists (SmallestOf passes) form
+      pub form-smallest : SideLists (SmallestOf passes) form
       form-smallest =
           same-lists _ _ _ (λ x. Iff·trans (stays-smallest side x) (
             λ s. record { enough = asks x .1 (s .enough); least = λ b lies e. s .least b lies (asks b .0 e) },
@@ -155,7 +156,14 @@ module _ (n : ℕ) (c : List ℕ) (v : valid n c ≡ true) where
   unfolding standardForm configBytes sideBytes
   write-place = written-back _ _
 
-  -- every set of the form is one of the configuration's, so that any two of different sides meet
+  -- every set of the form is one of the configuration's
+  pub reads-given : (k : ℕ) → k < 8 → used (readSet form k) ≡ true → Some 8 (λ j. readSet c j ≡ readSet form k)
+  reads-given k l u = stays-place (readSet c) _ (form-lists n (readSet c) (facts .small) (facts .reads) (readSet form) read-place .only k l u)
+
+  pub writes-given : (k : ℕ) → k < 8 → used (writeSet form k) ≡ true → Some 8 (λ j. writeSet c j ≡ writeSet form k)
+  writes-given k l u = stays-place (writeSet c) _ (form-lists n (writeSet c) (facts .small) (facts .writes) (writeSet form) write-place .only k l u)
+
+  -- so any two of different sides meet
   pub form-valid : valid n form ≡ true
   form-valid =
       let few = facts .small in
@@ -166,8 +174,8 @@ module _ (n : ℕ) (c : List ℕ) (v : valid n c ≡ true) where
         reads = form-side n (readSet c) few (facts .reads) (readSet form) read-place;
         writes = form-side n (writeSet c) few (facts .writes) (writeSet form) write-place;
         meet = λ j k l m p q.
-            let r = stays-place (readSet c) (readSet form j) (form-lists n (readSet c) few (facts .reads) (readSet form) read-place .only j l p) in
-            let w = stays-place (writeSet c) (writeSet form k) (form-lists n (writeSet c) few (facts .writes) (writeSet form) write-place .only k m q) in
+            let r = reads-given j l p in
+            let w = writes-given k m q in
             rw (r .2, w .2) at (facts .meet (r .0) (w .0) (r .1) (w .1) (rw (r .2) p) (rw (w .2) q));
       })
 
@@ -180,11 +188,11 @@ module _ (n : ℕ) (c : List ℕ) (v : valid n c ≡ true) where
       form-passing n (writeSet c) (facts .small) (facts .writes) (writeSet form) write-place _ _ (promise .holds-write c) (promise .holds-write form)
 
   -- its sets are the smallest that pass
-  pub reads-smallest : Lists (SmallestOf (holdsRead c)) (readSet form)
+  pub reads-smallest : SideLists (SmallestOf (holdsRead c)) (readSet form)
   reads-smallest =
       form-smallest n (readSet c) (facts .small) (facts .reads) (readSet form) read-place _ _ (promise .holds-read c) (promise .holds-read form)
 
-  pub writes-smallest : Lists (SmallestOf (holdsWrite c)) (writeSet form)
+  pub writes-smallest : SideLists (SmallestOf (holdsWrite c)) (writeSet form)
   writes-smallest =
       form-smallest n (writeSet c) (facts .small) (facts .writes) (writeSet form) write-place _ _ (promise .holds-write c) (promise .holds-write form)
 

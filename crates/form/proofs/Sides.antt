@@ -12,9 +12,9 @@ use Rattle.basics.specs.Listing.{Listing}
 use Rattle.basics.proofs.Tests.{clash, either}
 use Rattle.quorum.specs.Sets.{member, used}
 use Rattle.quorum.proofs.Promise.{promise}
-use Rattle.form.specs.Sides.{Lists}
+use Rattle.form.specs.Sides.{SideLists}
 
-pub same-lists : (P Q : ℕ → Type 0) (side : ℕ → ℕ) → ((x : ℕ) → P x ↔ Q x) → Lists P side → Lists Q side
+pub same-lists : (P Q : ℕ → Type 0) (side : ℕ → ℕ) → ((x : ℕ) → P x ↔ Q x) → SideLists P side → SideLists Q side
 same-lists P Q side same r =
     record { every = λ set q. r .every set (same set .1 q); only = λ k l u. same (side k) .0 (r .only k l u); rises = r .rises }
 
@@ -45,7 +45,7 @@ module _ {P : ℕ → Type 0} {l : List ℕ} {side : ℕ → ℕ} (filled : Fill
   at-place : (k : ℕ) → k < 8 → k < length l → P (side k)
   at-place k h m = rw (filled .place k h) (filled .listed .only k m)
 
-  pub lists : Lists P side
+  pub lists : SideLists P side
   lists =
       record {
         every = λ set s. let at = filled .listed .every set s in

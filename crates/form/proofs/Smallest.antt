@@ -9,7 +9,7 @@ use lib.Dec.{eqb}
 use borrow.Author.Tests.{eqb-true, eqb-false, eq-eqb, not-true}
 use Rattle.basics.specs.Tests.{Some}
 use Rattle.basics.proofs.Tests.{clash, either, fails, and-left, and-right, and-both, any-below, below-any}
-use Rattle.quorum.specs.Sets.{used, holds}
+use Rattle.quorum.specs.Sets.{used}
 use Rattle.quorum.specs.Configurations.{holdsPlace}
 use Rattle.quorum.specs.Promise.{_⊆_, LiesIn, QuorumIn}
 use Rattle.quorum.proofs.Promise.{promise}

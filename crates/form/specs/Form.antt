@@ -15,7 +15,7 @@ use Rattle.form.specs.Sides.{configBytes}
 unfoldable pub isSetOf : (ℕ → ℕ) → ℕ → Bool
 isSetOf side set = used set && anyBelow (λ k. eqb (side k) set) 8
 
--- "contains another of its side": it holds every station of a used set that is not the same set
+-- "contains another of its side": it holds every station of a used set that is not the same set. (Of equals one is kept in `formSets`.)
 unfoldable pub containsAnother : (ℕ → ℕ) → ℕ → Bool
 containsAnother side set = anyBelow (λ k. holdsPlace side set k && not (eqb (side k) set)) 8
 

@@ -22,7 +22,7 @@ unfoldable pub configBytes : List ℕ → List ℕ → List ℕ
 configBytes reads writes = sideBytes reads ++ sideBytes writes
 
 -- the used places of a side, which come first where it is valid, are exactly the sets with P, each once, rising as numbers
-pub record Lists (P : ℕ → Type 0) (side : ℕ → ℕ) : Type 0 where
+pub record SideLists (P : ℕ → Type 0) (side : ℕ → ℕ) : Type 0 where
   pub every : (set : ℕ) → P set → Some 8 (λ k. side k ≡ set)
   pub only : (k : ℕ) → k < 8 → used (side k) ≡ true → P (side k)
   pub rises : (j k : ℕ) → j < k → k < 8 → used (side k) ≡ true → side j < side k

@@ -3,17 +3,18 @@ use mathlib.Core.Path.{_≡_, refl, sym, _∙_}
 use mathlib.Core.Bool.{true, false, cond, _&&_}
 use mathlib.Core.List.{List}
 use Prim.Native.Nat.{ℕ, _≤_}
-use lib.Dec.{leb, eqb}
+use lib.Dec.{eqb}
 use lib.ListN.{length}
-use borrow.Author.Tests.{leb-true, le-leb, eqb-true, eq-eqb}
 use Rattle.basics.specs.Bytes.{over}
-use Rattle.basics.proofs.Tests.{fails, and-left, and-right, and-both}
+use Rattle.basics.proofs.Tests.{fails}
 use Rattle.basics.proofs.Writing.{over-all}
+use Rattle.quorum.specs.Sets.{listedStations}
 use Rattle.quorum.specs.Configurations.{configSize, valid}
 use Rattle.form.specs.Form.{standardForm}
 use Rattle.form.proofs.Laws.{form-length, form-any}
 use Rattle.rules.specs.Rules.{first}
 use Rattle.spelling.specs.Writer.{formRefusals, formNumber, formOutput}
+use Rattle.spelling.proofs.StandardForm.{sizes}
 
 module _ (n : ℕ) (config out : List ℕ) where
   -- what a call that returns this number and leaves this output is asked for
@@ -30,16 +31,11 @@ module _ (n : ℕ) (config out : List ℕ) where
 
   pub not-listed : (Listed → ⊥) → Answers 2 out
   unfolding formNumber formRefusals first
-  not-listed h = answers 2 out (rw (fails (leb 1 n && leb n 16 && eqb (length out) configSize) (λ e. h (there e)))) refl
-    where
-      there : (leb 1 n && leb n 16 && eqb (length out) configSize) ≡ true → Listed
-      there e =
-          let few = and-left _ _ e in
-          (leb-true 1 n (and-left _ _ few), leb-true n 16 (and-right (leb 1 n) _ few), eqb-true _ _ (and-right (leb 1 n && leb n 16) _ e))
+  not-listed h = answers 2 out (rw (fails (listedStations n && eqb (length out) configSize) (λ e. h (sizes n out .0 e)))) refl
 
   module _ (low : 1 ≤ n) (high : n ≤ 16) (long : length out ≡ configSize) where
-    listed : (leb 1 n && leb n 16 && eqb (length out) configSize) ≡ true
-    listed = and-both _ _ (and-both _ _ (le-leb 1 n low) (le-leb n 16 high)) (eq-eqb _ _ long)
+    listed : (listedStations n && eqb (length out) configSize) ≡ true
+    listed = sizes n out .1 (low, high, long)
 
     pub false-configuration : valid n config ≡ false → Answers 3 out
     unfolding formNumber formRefusals first

@@ -9,9 +9,10 @@ use Rattle.basics.specs.Bytes.{number, AreBytes}
 use Rattle.quorum.specs.Configurations.{configSize}
 use Rattle.layout.specs.Layout.{headSize, kindAt, spareAt, tableLength}
 use Rattle.layout.specs.Fields.{Copy, kindOf, Round, stations, items, offSet, roundOf, copyOf}
-use Rattle.layout.specs.View.{State, view, SameContents}
+use Rattle.layout.specs.View.{State, view}
 use Rattle.layout.specs.Rounds.{withPolled, withPuts}
 use Rattle.layout.specs.Updates.{setOff, setPolled, setPuts, setRound}
+use Rattle.layout.proofs.Contents.{SameWhole}
 use Rattle.layout.proofs.Fields.{opened, only-wider, number-kept, HeadOnly, head-stations, head-items, head-copies}
 use Rattle.layout.proofs.Fields.{off-only, polled-only, puts-only, round-only}
 use Rattle.layout.proofs.Fields.{off-off, off-round, polled-off, polled-round, puts-off, puts-round, round-off, round-spare, round-kind}
@@ -59,7 +60,7 @@ holds-own t b e =
     }
 
 -- and a table is viewed as the state that it holds
-pub held-view : (u : List ℕ) (w : State) → Holds u w → SameContents (view u) w
+pub held-view : (u : List ℕ) (w : State) → Holds u w → SameWhole (view u) w
 unfolding view
 held-view u w h = record { n = h .n; m = h .m; off = h .off; round = h .round; copies = h .copies }
 

@@ -8,6 +8,8 @@ use native.Mathlib.Nat.{mul-le-mul}
 use lib.Dec.{leb}
 use borrow.Author.Tests.{le-leb, leb-true}
 use Rattle.basics.proofs.Tests.{clash, fails, and-left, and-right, and-both, either}
+use Rattle.quorum.specs.Sets.{listedStations}
+use Rattle.quorum.proofs.Promise.{promise}
 use Rattle.layout.specs.Layout.{tableLength, largest, listed, layLength}
 
 -- n and m are listed
@@ -18,13 +20,16 @@ pub sized : (n m : ℕ) → (listed n m ≡ true) ↔ Sized n m
 sized n m = (
   λ h. let three = and-left _ (leb m 32) h in
       let two = and-left _ (leb 1 m) three in (
-        leb-true 1 n (and-left _ (leb n 16) two),
-        leb-true n 16 (and-right (leb 1 n) _ two),
-        leb-true 1 m (and-right (leb 1 n && leb n 16) _ three),
-        leb-true m 32 (and-right (leb 1 n && leb n 16 && leb 1 m) _ h),
+        stations .0 two .0,
+        stations .0 two .1,
+        leb-true 1 m (and-right (listedStations n) _ three),
+        leb-true m 32 (and-right (listedStations n && leb 1 m) _ h),
       ),
-  λ h. and-both _ _ (and-both _ _ (and-both _ _ (le-leb 1 n (h .0)) (le-leb n 16 (h .1))) (le-leb 1 m (h .2))) (le-leb m 32 (h .3)),
+  λ h. and-both _ _ (and-both _ _ (stations .1 (h .0, h .1)) (le-leb 1 m (h .2))) (le-leb m 32 (h .3)),
 )
+  where
+    stations : (listedStations n ≡ true) ↔ ((1 ≤ n) × (n ≤ 16))
+    stations = promise .listed-stations n
 
 -- the length that a lay needs: none, or that of the table
 pub lay-length-out : (n m : ℕ) → (Sized n m → ⊥) → layLength n m ≡ 0

@@ -1,6 +1,6 @@
 -- The fields of the table, read from its bytes.
 use mathlib.Core.List.{List}
-use Prim.Native.Nat.{ℕ, zero, suc, _+_}
+use Prim.Native.Nat.{ℕ, zero, suc, _+_, _-_, _^_}
 use Rattle.basics.specs.Bytes.{part, number}
 use Rattle.layout.specs.Layout.{stationsAt, itemsAt, offAt, kindAt, itemAt, polledAt, dataPutsAt, configPutsAt, valueAt, targetAt}
 use Rattle.quorum.specs.Configurations.{configSize}
@@ -14,6 +14,10 @@ pub record Copy : Type 0 where
   pub value : ℕ
   pub generation : ℕ
   pub config : List ℕ
+
+-- "Value, version and generation are unsigned, 64 bits." The last number that a version or a generation can have
+abbrev pub lastCount : ℕ
+lastCount = 2 ^ 64 - 1
 
 abbrev pub newCopy : ℕ → ℕ → ℕ → List ℕ → Copy
 newCopy version value generation config = record { version = version; value = value; generation = generation; config = config }

@@ -2,6 +2,7 @@
 use mathlib.Core.Bool.{Bool, not, cond, _&&_}
 use Prim.Native.Nat.{ℕ, _+_, _*_}
 use lib.Dec.{leb}
+use Rattle.quorum.specs.Sets.{listedStations}
 
 -- "Head, 56 bytes: 0 n; 1 m; 2–3 set of stations off the bus; 4 round (0 none, 1 read, 2 write, 3 change); 5 item;
 -- 6–7 polled set; 8–9 data puts; 10–11 configuration puts; 12–15 zero; 16–23 value to write; 24–55 target configuration."
@@ -62,13 +63,17 @@ copyGenerationAt = 16
 abbrev pub copyConfigAt : ℕ
 copyConfigAt = 24
 
--- "The copy of item i at station s starts at 56 + 56 × (i × n + s)."
+-- the copy k of all, in their order
+abbrev pub copyAt : ℕ → ℕ
+copyAt k = copiesAt + copySize * k
+
+-- "The copy of item i at station s starts at 56 + 56 × (i × n + s)"
 unfoldable pub address : ℕ → ℕ → ℕ → ℕ
-address n i s = copiesAt + copySize * (i * n + s)
+address n i s = copyAt (i * n + s)
 
 -- "The length is 56 × (1 + n × m)": the head, and behind it n × m copies.
 unfoldable pub tableLength : ℕ → ℕ → ℕ
-tableLength n m = copiesAt + copySize * (n * m)
+tableLength n m = copyAt (n * m)
 
 -- "at most 28,728": the length for 16 stations and 32 items (TableFacts.antt)
 abbrev pub largest : ℕ
@@ -76,7 +81,7 @@ largest = 28728
 
 -- "A table has n stations, 1 to 16, and m items, 1 to 32."
 abbrev pub listed : ℕ → ℕ → Bool
-listed n m = leb 1 n && leb n 16 && leb 1 m && leb m 32
+listed n m = listedStations n && leb 1 m && leb m 32
 
 -- the length that a lay needs; for n or m out of range it needs nothing
 unfoldable pub layLength : ℕ → ℕ → ℕ

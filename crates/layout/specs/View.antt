@@ -44,16 +44,8 @@ view t =
 abbrev pub onBus : State → ℕ
 onBus v = minus (full (v .n)) (v .off)
 
--- two states of the same stations and items, with the same head and the same copies of them (`ContentsBy` of equality, below, by whole records)
-pub record SameContents (v w : State) : Type 0 where
-  pub n : v .n ≡ w .n
-  pub m : v .m ≡ w .m
-  pub off : v .off ≡ w .off
-  pub round : v .round ≡ w .round
-  pub copies : (i s : ℕ) → i < w .m → s < w .n → v .copies i s ≡ w .copies i s
-
--- ---- the same but for configurations, which are only related: of a copy, of a round, of a state. What this comes to where the same station sets pass is in
--- Spellings.antt of `spelling`.
+-- ---- the same but for configurations, which are related: two copies, two rounds, two states of the same stations and items (what this comes to where the
+-- same station sets pass is in Spellings.antt of `spelling`)
 pub record CopyBy (R : List ℕ → List ℕ → Type 0) (c d : Copy) : Type 0 where
   pub version : c .version ≡ d .version
   pub value : c .value ≡ d .value
@@ -75,6 +67,10 @@ pub record ContentsBy (R : List ℕ → List ℕ → Type 0) (v w : State) : Typ
   pub off : v .off ≡ w .off
   pub round : RoundBy R (v .round) (w .round)
   pub copies : (i s : ℕ) → i < w .m → s < w .n → CopyBy R (v .copies i s) (w .copies i s)
+
+-- the same contents: the configurations are equal too
+abbrev pub SameContents : State → State → Type 0
+SameContents = ContentsBy _≡_
 
 -- ---- the open round: its item's copies, what its polled copies give, whether it is heard
 abbrev pub own : State → ℕ → Copy

@@ -21,7 +21,6 @@ use Rattle.layout.specs.Soundness.{sound}
 use Rattle.layout.specs.View.{Table, State, view, onBus}
 use Rattle.layout.proofs.Soundness.{is-sound}
 use Rattle.layout.proofs.Newer.{by-generation}
-use Rattle.plan.specs.Starts.{rising}
 use Rattle.plan.specs.Plan.{orderOn, lowestOn, startOn, plannedPolls, plannedPuts}
 use Rattle.plan.proofs.Starts.{in-set, start-part, start-more}
 use Rattle.plan.proofs.Plan.{polls-listed, all-started, heard-then, unheard-before, written-from, unwritten}
@@ -35,7 +34,7 @@ use Rattle.rules.specs.Book.{Book, fed}
 use Rattle.rules.specs.Needs.{needs, InHearing}
 use Rattle.rules.specs.Demand2.{HeardBy}
 use Rattle.rules.specs.Steps.{SameCopies, RisingOnBus, Enough, Planned}
-use Rattle.rules.specs.WholeRounds.{Opens, polls, puts}
+use Rattle.rules.specs.WholeRounds.{Opens, polls}
 use Rattle.rules.proofs.Judged.{numbered}
 use Rattle.rules.proofs.Quorums.{heard-by}
 use Rattle.rules.proofs.Demand1.{reply-figures}

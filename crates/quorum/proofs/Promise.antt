@@ -19,7 +19,7 @@ use Rattle.quorum.proofs.Members.{member-empty, member-join, member-or,
 use Rattle.quorum.proofs.Members.{holds-member, member-holds, subset-le, shares-members, used-member}
 use Rattle.quorum.proofs.Members.{within-members, within-join, within-unite, within-minus}
 use Rattle.quorum.proofs.Members.{lowest-member, below-lowest, remove-less, without-lowest}
-use Rattle.quorum.proofs.Validity.{valid-facts, facts-valid, first-used, place-lies, lies-place}
+use Rattle.quorum.proofs.Validity.{listed-stations, valid-facts, facts-valid, first-used, place-lies, lies-place}
 use Rattle.quorum.proofs.Validity.{first-exactly, first-nowhere, first-same, no-place, a-place, figure-at, figure-nowhere, figure-place, figure-none}
 
 -- ---- a side of a configuration: the first place whose set lies within, and whether there is one
@@ -110,6 +110,7 @@ promise =
       figure-place = figure-place;
       figure-none = figure-none;
       valid-exactly = λ n c. (valid-facts n c, facts-valid n c);
+      listed-stations = listed-stations;
       valid-stations = λ n c v. let f = valid-facts n c v in (f .positive, f .small);
       first-used = first-used;
       valid-length = λ n c v. valid-facts n c v .long;

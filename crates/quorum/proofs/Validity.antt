@@ -8,15 +8,15 @@ use native.Mathlib.Nat.{not-suc-le-zero}
 use native.Mathlib.Numerals.{add-one}
 use native.Mathlib.Omega.{arith}
 use lib.ListN.{length}
-use lib.Dec.{eqb}
+use lib.Dec.{leb, eqb}
 use borrow.Author.Tests.{leb-true, le-leb, eqb-true, eqb-false, eq-eqb, not-true}
-use Rattle.quorum.specs.Sets.{used}
+use Rattle.quorum.specs.Sets.{listedStations, used}
 use Rattle.quorum.specs.Configurations.{readSet, writeSet, usedFirst, someUsed, allWithin, sharesAll, allShare, validity, valid, configSize}
 use Rattle.quorum.specs.Configurations.{holdsPlace, firstPlace, orElse, placeFigure, isPlace}
 use Rattle.quorum.specs.Promise.{LiesIn, Side, Valid}
 use Rattle.quorum.specs.declared.Place.{Place}
 use Rattle.quorum.specs.declared.Place.the-variants.{At, Nowhere}
-use Rattle.basics.proofs.Tests.{clash, and-left, and-right, and-both, implies, implied, or-cases, either}
+use Rattle.basics.proofs.Tests.{_also_, clash, and-left, and-right, and-both, implies, implied, or-cases, either}
 use Rattle.basics.proofs.Tests.{all-true, true-all, all-below, below-all, any-below, below-any, below-suc}
 use Rattle.quorum.proofs.Members.{holds-member, member-holds, shares-members, within-members}
 
@@ -46,16 +46,23 @@ facts-side n side s = (
   below-all _ 8 (λ k l. within-members n (side k) .1 (s .inRange k l)),
 )
 
+pub listed-stations : (n : ℕ) → (listedStations n ≡ true) ↔ ((1 ≤ n) × (n ≤ 16))
+listed-stations n = (
+  λ e. (leb-true 1 n (and-left _ (leb n 16) e), leb-true n 16 (and-right (leb 1 n) _ e)),
+  λ h. and-both _ _ (le-leb 1 n (h .0)) (le-leb n 16 (h .1)),
+)
+
 pub valid-facts : (n : ℕ) (c : List ℕ) → valid n c ≡ true → Valid n c
 unfolding valid validity allShare sharesAll
 valid-facts n c e =
     let t = all-true (validity n c) e in
-    let u = t .1 .1 .1 in
+    let stations = listed-stations n .0 (t .0) in
+    let u = t .1 .1 in
     let v = u .1 .1 .1 .1 in
     record {
-      positive = leb-true 1 n (t .0);
-      small = leb-true n 16 (t .1 .0);
-      long = eqb-true _ _ (t .1 .1 .0);
+      positive = stations .0;
+      small = stations .1;
+      long = eqb-true _ _ (t .1 .0);
       reads = side-facts n (readSet c) (u .0) (u .1 .1 .0) (v .0);
       writes = side-facts n (writeSet c) (u .1 .0) (u .1 .1 .1 .0) (v .1 .0);
       meet = λ i j l m p q. shares-members (readSet c i) (writeSet c j) .0
@@ -67,38 +74,18 @@ unfolding valid validity allShare sharesAll
 facts-valid n c v =
     let r = facts-side n (readSet c) (v .reads) in
     let w = facts-side n (writeSet c) (v .writes) in
-    true-all (validity n c) (
-      le-leb 1 n (v .positive),
-      (
-        le-leb n 16 (v .small),
-        (
-          eq-eqb (length c) configSize (v .long),
-          (
-            r .0,
-            (
-              w .0,
-              (
-                r .1,
-                (
-                  w .1,
-                  (
-                    r .2,
-                    (
-                      w .2,
-                      (
-                        below-all _ 8 (λ i l. implied _ _ (λ p. below-all _ 8 (λ j m. implied _ _ (λ q.
-                            shares-members (readSet c i) (writeSet c j) .1 (v .meet i j l m p q))))),
-                        tt,
-                      ),
-                    ),
-                  ),
-                ),
-              ),
-            ),
-          ),
-        ),
-      ),
-    )
+    true-all (validity n c)
+    (listed-stations n .1 (v .positive, v .small)
+    also eq-eqb (length c) configSize (v .long)
+    also r .0
+    also w .0
+    also r .1
+    also w .1
+    also r .2
+    also w .2
+    also below-all _ 8 (λ i l. implied _ _ (λ p. below-all _ 8 (λ j m. implied _ _ (λ q.
+    shares-members (readSet c i) (writeSet c j) .1 (v .meet i j l m p q)))))
+    also tt)
 
 -- the first place of a valid side is used
 pub first-used : (n : ℕ) (side : ℕ → ℕ) → Side n side → used (side 0) ≡ true

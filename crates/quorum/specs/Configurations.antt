@@ -3,10 +3,10 @@ use mathlib.Core.Bool.{Bool, true, false, not, cond, _&&_, _||_}
 use mathlib.Core.List.{List, [], _∷_}
 use Prim.Native.Nat.{ℕ, zero, suc, _+_, _*_}
 use lib.ListN.{length}
-use lib.Dec.{leb, eqb}
+use lib.Dec.{eqb}
 use Rattle.basics.specs.Tests.{all, allBelow, anyBelow}
 use Rattle.basics.specs.Bytes.{number}
-use Rattle.quorum.specs.Sets.{used, holds, shares, within}
+use Rattle.quorum.specs.Sets.{listedStations, used, holds, shares, within}
 use Rattle.quorum.specs.declared.Place.{Place}
 use Rattle.quorum.specs.declared.Place.the-variants.{At, Nowhere}
 
@@ -49,8 +49,7 @@ allShare reads writes = allBelow (λ k. not (used (reads k)) || sharesAll writes
 -- sentences before that one: there are 1 to 16 stations, and used places come first on each side.
 unfoldable pub validity : ℕ → List ℕ → List Bool
 validity n c =
-    leb 1 n
-    ∷ leb n 16
+    listedStations n
     ∷ eqb (length c) configSize
     ∷ usedFirst (readSet c)
     ∷ usedFirst (writeSet c)

@@ -1,6 +1,6 @@
 -- What the crate promises of its definitions of sets and configurations: "the table layer relies on their promises alone". The crates above
 -- rely on this record and on the contracts of `sets` and `validity`. These two, the code of this layer, open the definitions, and so do `form`,
--- `in_form` and `forming`, which write configurations, and the examples that are computed (`cases`, `runs`).
+-- `in_form` and `forming`, which test and write configurations, and the examples that are computed (`cases`, `runs`).
 use mathlib.Core.Path.{_≡_}
 use mathlib.Core.Bool.{Bool, true, false, not, _&&_, _||_}
 use mathlib.Core.List.{List}
@@ -10,7 +10,7 @@ use lib.Dec.{ltb, eqb}
 use lib.ListN.{length}
 use lib.Bits.{bitAnd}
 use Rattle.basics.specs.Tests.{Some}
-use Rattle.quorum.specs.Sets.{member, used, holds, shares, within, join, unite, minus, remove, lowest, full}
+use Rattle.quorum.specs.Sets.{listedStations, member, used, holds, shares, within, join, unite, minus, remove, lowest, full}
 use Rattle.quorum.specs.Configurations.{configSize, readSet, writeSet, valid, firstPlace}
 use Rattle.quorum.specs.Configurations.{firstRead, firstWrite, placeFigure, isPlace, holdsRead, holdsWrite}
 use Rattle.quorum.specs.declared.Place.{Place}
@@ -89,6 +89,7 @@ pub record Promise : Type 0 where
   pub figure-none : (place : Place) → (placeFigure place ≡ 0) ↔ (isPlace place ≡ false)
   -- ---- validity
   pub valid-exactly : (n : ℕ) (c : List ℕ) → (valid n c ≡ true) ↔ Valid n c
+  pub listed-stations : (n : ℕ) → (listedStations n ≡ true) ↔ ((1 ≤ n) × (n ≤ 16))
   pub valid-stations : (n : ℕ) (c : List ℕ) → valid n c ≡ true → (1 ≤ n) × (n ≤ 16)
   pub valid-length : (n : ℕ) (c : List ℕ) → valid n c ≡ true → length c ≡ configSize
   -- a side's first place is used

@@ -1,10 +1,14 @@
 -- Station sets (document 01, "Stations, sets, configurations"): "A station set is 16 bits: bit i is station i."
 -- A station is a replica of source 000, and a station set a set of replica names.
-use mathlib.Core.Bool.{Bool, not, cond}
+use mathlib.Core.Bool.{Bool, not, cond, _&&_}
 use Prim.Native.Nat.{ℕ, _-_, _/_, _%_, _^_, min}
-use lib.Dec.{ltb, eqb}
+use lib.Dec.{leb, ltb, eqb}
 use lib.Bits.{bitAnd, bitOr}
 use lib.Count.{trailingZeros}
+
+-- "A table has n stations, 1 to 16": a number of stations that there can be
+abbrev pub listedStations : ℕ → Bool
+listedStations n = leb 1 n && leb n 16
 
 -- station i is in the set
 unfoldable pub member : ℕ → ℕ → Bool

@@ -21,9 +21,10 @@ use Rattle.layout.specs.Rounds.{withPolled, withPuts}
 use Rattle.layout.specs.Newest.{stationFigure, byVersion, byGeneration, heardPlace, hears}
 use Rattle.layout.specs.Soundness.{sound}
 use Rattle.layout.specs.View.{Table, State, view, own, foundByVersion, foundByGeneration, versionFrom, heard, onBus}
-use Rattle.layout.specs.View.{SameContents, CopyBy, RoundBy, ContentsBy}
+use Rattle.layout.specs.View.{CopyBy, RoundBy, ContentsBy}
 use Rattle.layout.specs.Updates.{noTarget}
 use Rattle.layout.proofs.Soundness.{is-sound, sound-facts}
+use Rattle.layout.proofs.Contents.{SameWhole, by-fields}
 use Rattle.layout.proofs.Fields.{opened}
 use Rattle.layout.proofs.Held.{withRound}
 use Rattle.layout.proofs.Newer.{version-station-by, version-by, generation-by}
@@ -39,7 +40,7 @@ use Rattle.rules.specs.declared.Reply.{Reply}
 use Rattle.rules.specs.Lists.{replies, afterAll, AllPassable}
 use Rattle.rules.specs.Needs.{needs, Allowed}
 use Rattle.rules.specs.Steps.{SameCopies}
-use Rattle.rules.specs.Alike.{Alike, AlikeTables}
+use Rattle.rules.specs.Alike.{AlikeBy, Alike, AlikeTables}
 use Rattle.rules.proofs.Chains.{first-applies}
 use Rattle.rules.proofs.Judged.{allowed, lay-number, sound-number, unsound-number}
 use Rattle.rules.proofs.States.{next}
@@ -51,14 +52,8 @@ use Rattle.rules.proofs.Kept.{after-sound}
 no-figures : (k : ℕ) (f g : Figures) → (k ≡ 0 → ⊥) → answer k f ≡ answer k g
 no-figures k f g h = rw (ne-eqb k 0 h)
 
--- both are sound or neither, the same sizes fit, and they have the same contents but for configurations, which are related
-pub record AlikeBy (R : List ℕ → List ℕ → Type 0) (v w : State) : Type 0 where
-  pub isSound : v .isSound ≡ w .isSound
-  pub fits : (n m : ℕ) → v .fits n m ≡ w .fits n m
-  pub contents : ContentsBy R v w
-
 -- states with the contents of related ones are related
-pub contents-like : {R : List ℕ → List ℕ → Type 0} {v v′ w w′ : State} → SameContents v v′ → SameContents w w′ → ContentsBy R v′ w′ → ContentsBy R v w
+pub contents-like : {R : List ℕ → List ℕ → Type 0} {v v′ w w′ : State} → SameWhole v v′ → SameWhole w w′ → ContentsBy R v′ w′ → ContentsBy R v w
 contents-like x y z =
     record {
       n = x .n ∙ z .n ∙ sym (y .n);
@@ -365,7 +360,7 @@ module _ {R : List ℕ → List ℕ → Type 0} {seen : Call → Reply → Reply
     item-listed : view t .isSound ≡ true → view t .round .item < view t .m
     item-listed s = is-sound t s .item
 
-    number-eq : reply t c .number ≡ reply u c .number
+    pub number-eq : reply t c .number ≡ reply u c .number
     unfolding replyOf
     number-eq = number-same (view t) (view u) a item-listed c
 
@@ -412,65 +407,11 @@ exactly-agree =
       diagnosed = λ c d e set k b. ap (λ x. answer 0 (record { first = k; second = b; third = placeFigure (firstRead x set) })) e;
     }
 
-by-contents : (v w : State) → Alike v w → AlikeBy _≡_ v w
-by-contents v w a =
-    let same = a .contents in
-    let copy = same .copies in
-    record {
-      isSound = a .isSound;
-      fits = a .fits;
-      contents = record {
-        n = same .n;
-        m = same .m;
-        off = same .off;
-        round = record {
-          kind = ap (λ r. r .kind) (same .round);
-          item = ap (λ r. r .item) (same .round);
-          polled = ap (λ r. r .polled) (same .round);
-          dataPuts = ap (λ r. r .dataPuts) (same .round);
-          configPuts = ap (λ r. r .configPuts) (same .round);
-          value = ap (λ r. r .value) (same .round);
-          target = ap (λ r. r .target) (same .round);
-        };
-        copies = λ i s p q. record {
-          version = ap (λ x. x .version) (copy i s p q);
-          value = ap (λ x. x .value) (copy i s p q);
-          generation = ap (λ x. x .generation) (copy i s p q);
-          config = ap (λ x. x .config) (copy i s p q);
-        };
-      };
-    }
-
-contents-by : (v w : State) → AlikeBy _≡_ v w → Alike v w
-contents-by v w a =
-    let same = a .contents in
-    let its = same .round in
-    record {
-      isSound = a .isSound;
-      fits = a .fits;
-      contents = record {
-        n = same .n;
-        m = same .m;
-        off = same .off;
-        round = λ j. record {
-          kind = its .kind j;
-          item = its .item j;
-          polled = its .polled j;
-          dataPuts = its .dataPuts j;
-          configPuts = its .configPuts j;
-          value = its .value j;
-          target = its .target j;
-        };
-        copies = λ i s p q j. let x = same .copies i s p q in
-            record { version = x .version j; value = x .value j; generation = x .generation j; config = x .config j };
-      };
-    }
-
 pub same-reply : (v w : State) → Alike v w → (v .isSound ≡ true → v .round .item < v .m) → (c : Call) → replyOf v c ≡ replyOf w c
-same-reply v w a listed c = reply-alike exactly-agree v w (by-contents v w a) listed c
+same-reply v w a listed c = reply-alike exactly-agree v w a listed c
 
 alike-after : (t u : Table) (c : Call) → AreBytes t → AreBytes u → Passable c → Alike (view t) (view u) → Alike (view (after t c)) (view (after u c))
-alike-after t u c bt bu p a = contents-by _ _ (after-alike exactly-agree t u c bt bu p (by-contents _ _ a))
+alike-after t u c bt bu p a = after-alike exactly-agree t u c bt bu p a
 
 same-replies : (t u : Table) (calls : List Call) → AreBytes t → AreBytes u → AllPassable calls → Alike (view t) (view u)
     → (replies t calls ≡ replies u calls) × Alike (view (afterAll t calls)) (view (afterAll u calls))
@@ -492,6 +433,6 @@ no-round-matters c apart t u s s′ same off =
     alike-tables .same-reply (view u) (withRound (view t) (view u .round)) c (record {
       isSound = s′ ∙ sym s;
       fits = λ n m. ap (λ l. eqb l (tableLength n m)) (sound-facts u s′ .size ∙ rw (same .n, same .m) (sym (sound-facts t s .size)));
-      contents = record { n = same .n; m = same .m; off = off; round = refl; copies = same .copies };
+      contents = by-fields (record { n = same .n; m = same .m; off = off; round = refl; copies = same .copies });
     }) (λ _. is-sound u s′ .item)
     ∙ apart (view t) (view u .round)

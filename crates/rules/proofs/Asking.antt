@@ -15,7 +15,8 @@ use Rattle.quorum.specs.Configurations.{placeFigure}
 use Rattle.layout.specs.Fields.{Kind, none, read, write, change, Round}
 use Rattle.layout.specs.Newest.{heardPlace}
 use Rattle.layout.specs.Rounds.{withPolled, withPuts, withPoll, withPut}
-use Rattle.layout.specs.View.{Table, State, view, heard, SameContents, onBus}
+use Rattle.layout.specs.View.{Table, State, view, heard, onBus}
+use Rattle.layout.proofs.Contents.{SameWhole, by-whole, by-fields}
 use Rattle.layout.proofs.Held.{withRound}
 use Rattle.rules.specs.Calls.{Call, poll, put, commit, dataSort, configSort, isData}
 use Rattle.rules.specs.Passed.{Passable}
@@ -65,28 +66,28 @@ module _ (v : State) (isSound : v .isSound ≡ true) (few : v .n ≤ 16) where
   module _ (r : Round) (u : Table) (a : Asking v r u) where
     -- after a call that changes the round alone
     goes-on : (c : Call) (f : Round → Round) → Passable c → reply u c .number ≡ 0
-        → SameContents (view (after u c)) (withRound (view u) (f (view u .round))) → Asking v (f r) (after u c)
+        → SameWhole (view (after u c)) (withRound (view u) (f (view u .round))) → Asking v (f r) (after u c)
     unfolding view
     goes-on c f p e l =
-        let same = a .alike .contents in
+        let same = by-whole (a .alike .contents) in
         record {
           bytes = bytes-kept u c (a .bytes) p;
           alike = record {
             isSound = after-sound u c (a .bytes) p e ∙ sym isSound;
             fits = λ n m. rw (length-kept u c) (a .alike .fits n m);
-            contents = record {
+            contents = by-fields (record {
               n = l .n ∙ same .n;
               m = l .m ∙ same .m;
               off = l .off ∙ same .off;
               round = l .round ∙ ap f (same .round);
               copies = λ i s h k. l .copies i s (rw (same .m) h) (rw (same .n) k) ∙ same .copies i s h k;
-            };
+            });
           };
         }
 
     -- a call gets what it gets in that state
     pub same-reply : r .item < v .m → (c : Call) → reply u c ≡ replyOf (withRound v r) c
-    same-reply item c = alike-tables .same-reply (view u) (withRound v r) c (a .alike) (λ _. rw (a .alike .contents .round, a .alike .contents .m) item)
+    same-reply item c = alike-tables .same-reply (view u) (withRound v r) c (a .alike) (λ _. rw (a .alike .contents .round .item, a .alike .contents .m) item)
 
     same-number : r .item < v .m → (c : Call) → reply u c .number ≡ numberOf (withRound v r) c
     unfolding replyOf

@@ -13,7 +13,8 @@ use Rattle.quorum.specs.Sets.{member}
 use Rattle.quorum.specs.Configurations.{valid, holdsWrite}
 use Rattle.layout.specs.Fields.{Copy, Kind, Round}
 use Rattle.layout.specs.Fields.{none as noRound, read as readRound, write as writeRound, change as changeRound}
-use Rattle.layout.specs.View.{State, own, foundByVersion, foundByGeneration, heard, SameContents}
+use Rattle.layout.specs.View.{State, own, foundByVersion, foundByGeneration, heard}
+use Rattle.layout.proofs.Contents.{SameWhole}
 use Rattle.layout.proofs.Soundness.{RoundFacts, StateSound}
 use Rattle.form.specs.Form.{standardForm}
 use Rattle.layout.proofs.Stored.{stored}
@@ -44,7 +45,7 @@ pub record Follows (v : State) (b : Book) : Type 0 where
   pub entries : length (b .items) ≡ 32
 
 -- it speaks of the items and stations of the table only
-pub follows-like : (v w : State) (b : Book) → SameContents v w → Follows w b → Follows v b
+pub follows-like : (v w : State) (b : Book) → SameWhole v w → Follows w b → Follows v b
 follows-like v w b l inv =
     record {
       kept = rw (l .n, l .m) (λ j h. kept-same (w .n) (w .copies j) (v .copies j) _ _ _ (λ s q. l .copies j s h q) (inv .kept j h));

@@ -9,7 +9,8 @@ use borrow.Author.Tests.{not-true}
 use Rattle.basics.specs.Bytes.{AreBytes}
 use Rattle.basics.proofs.Tests.{clash}
 use Rattle.layout.specs.Soundness.{sound}
-use Rattle.layout.specs.View.{Table, State, view, SameContents}
+use Rattle.layout.specs.View.{Table, State, view}
+use Rattle.layout.proofs.Contents.{SameWhole}
 use Rattle.layout.proofs.Held.{Holds, held-view}
 use Rattle.layout.proofs.Soundness.{StateSound, facts-sound}
 use Rattle.rules.specs.Calls.{Call, lay, isLay}
@@ -26,7 +27,7 @@ use Rattle.rules.proofs.States.{next}
 use Rattle.rules.proofs.Laws.{done-law, holds-next, bytes-kept}
 
 -- a state like a sound one is sound
-like-sound : (v w : State) → SameContents v w → StateSound w → StateSound v
+like-sound : (v w : State) → SameWhole v w → StateSound w → StateSound v
 like-sound v w l f =
     record {
       positive = rw (l .n) (f .positive);

@@ -17,9 +17,10 @@ use Rattle.quorum.specs.Configurations.{configSize}
 use Rattle.layout.specs.Layout.{tableLength}
 use Rattle.layout.specs.Fields.{Copy, Kind, none, read, write, change}
 use Rattle.layout.specs.Soundness.{sound}
-use Rattle.layout.specs.View.{Table, State, view, heard, SameContents}
+use Rattle.layout.specs.View.{Table, State, view, heard}
 use Rattle.layout.specs.Updates.{setOff, noTarget, putCopies}
 use Rattle.basics.proofs.Parts.{read-zeros}
+use Rattle.layout.proofs.Contents.{SameWhole}
 use Rattle.layout.proofs.Fields.{off-only, polled-only, puts-only, round-only, target-length}
 use Rattle.layout.proofs.Soundness.{StateSound, sound-facts, is-sound, sound-head}
 use Rattle.layout.proofs.Held.{withOff, withCopies, Holds, holds-own, held-view, holds-off, holds-polled, holds-puts}
@@ -49,7 +50,7 @@ pub record Law (t : Table) (c : Call) : Type 0 where
   -- the bytes after it hold that state
   pub held : AreBytes t → Passable c → Holds (done t (view t) c) (next (view t) c)
   -- it does what Steps.antt says
-  pub does : (w : State) (r : Reply) → SameContents w (next (view t) c) → Shows r (figuresOf (view t) c) → Step c (view t) w r
+  pub does : (w : State) (r : Reply) → SameWhole w (next (view t) c) → Shows r (figuresOf (view t) c) → Step c (view t) w r
   -- a table that followed the book follows it after both
   pub follows : (b : Book) → Follows (view t) b → Follows (next (view t) c) (step b c)
   -- the table keeps its length
@@ -244,7 +245,7 @@ module _ (t : Table) (c : Call) (e : reply t c .number ≡ 0) where
   holds-next b p = rw done-after (done-law .held b p)
 
   -- what the rules see after it
-  pub next-view : AreBytes t → Passable c → SameContents (view (after t c)) (next (view t) c)
+  pub next-view : AreBytes t → Passable c → SameWhole (view (after t c)) (next (view t) c)
   next-view b p = held-view (after t c) (next (view t) c) (holds-next b p)
 
   -- it does what Steps.antt says

@@ -14,7 +14,8 @@ use Rattle.quorum.specs.Promise.{_⊆_}
 use Rattle.quorum.proofs.Promise.{promise}
 use Rattle.layout.specs.Fields.{none, change}
 use Rattle.layout.specs.Newest.{hears}
-use Rattle.layout.specs.View.{Table, State, view, own, SameContents}
+use Rattle.layout.specs.View.{Table, State, view, own}
+use Rattle.layout.proofs.Contents.{SameWhole}
 use Rattle.layout.proofs.Soundness.{StateSound, is-sound}
 use Rattle.layout.proofs.Newer.{hears-same, hears-alike}
 use Rattle.rules.specs.Calls.{Call, lay, openRead, openWrite, openChange, poll, put, commit, abandon, link, reach, diagnose, plan, isLay}
@@ -34,7 +35,7 @@ module _ (i these : ℕ) where
   abbrev pub Deaf : State → Type 0
   Deaf w = i < w .m → (set : ℕ) → set ⊆ these → hears (w .copies i) set (w .n) ≡ false
 
-  pub deaf-like : (w x : State) → SameContents w x → Deaf x → Deaf w
+  pub deaf-like : (w x : State) → SameWhole w x → Deaf x → Deaf w
   deaf-like w x l h b set inside =
       let item = rw (l .m) at b in
       rw (l .n) (hears-same (w .copies i) (x .copies i) set (x .n) (λ s k. l .copies i s item k) ∙ h item set inside)

@@ -14,8 +14,9 @@ use Rattle.quorum.proofs.Promise.{promise}
 use Rattle.form.specs.Form.{standardForm}
 use Rattle.layout.specs.Fields.{Kind, none, read, write, change}
 use Rattle.layout.specs.Newest.{hears}
-use Rattle.layout.specs.View.{Table, State, view, heard, SameContents, onBus}
+use Rattle.layout.specs.View.{Table, State, view, heard, onBus}
 use Rattle.layout.specs.Updates.{noTarget}
+use Rattle.layout.proofs.Contents.{SameWhole}
 use Rattle.layout.proofs.Fields.{opened}
 use Rattle.layout.proofs.Held.{withRound}
 use Rattle.layout.proofs.Soundness.{StateSound, is-sound}
@@ -42,7 +43,7 @@ module _ (i : ℕ) where
     pub polled : (w .round .kind ≡ none → ⊥) → w .round .item ≡ i → w .round .polled ⊆ those
     pub deaf : Deaf i those w
 
-  silent-like : (w x : State) → SameContents w x → Silent x → Silent w
+  silent-like : (w x : State) → SameWhole w x → Silent x → Silent w
   silent-like w x l h =
       record {
         those = h .those;

@@ -3,13 +3,13 @@ use mathlib.Core.Path.{_≡_, refl, ap}
 use mathlib.Core.Bool.{Bool, true, false, not, _&&_}
 use mathlib.Core.Logic.{_↔_}
 use mathlib.Core.List.{List}
-use Prim.Native.Nat.{ℕ, _-_, _^_}
+use Prim.Native.Nat.{ℕ}
 use borrow.Author.Tests.{eqb-true, eq-eqb, not-false}
 use Rattle.basics.proofs.Tests.{clash, fails, and-left, and-right, and-both}
 use Rattle.quorum.specs.Configurations.{firstRead, placeFigure}
 use Rattle.quorum.specs.declared.Place.{Place}
 use Rattle.quorum.proofs.Promise.{promise}
-use Rattle.layout.specs.Fields.{Kind, none, read, write, change}
+use Rattle.layout.specs.Fields.{lastCount, Kind, none, read, write, change}
 use Rattle.layout.specs.Newest.{byGeneration, heardPlace, hears}
 use Rattle.layout.specs.View.{State, own, foundByVersion, foundByGeneration, heard}
 use Rattle.layout.proofs.Newer.{by-version, by-generation, heard-finds}
@@ -48,8 +48,8 @@ module _ (v : State) where
     pub is-spent : (k : Kind) → (spent v k ≡ true) ↔ Spent v f k
     is-spent none = (λ e. clash e refl, λ z. absurd z)
     is-spent read = (λ e. clash e refl, λ z. absurd z)
-    is-spent write = rw version-found (eqb-true _ (2 ^ 64 - 1), eq-eqb _ (2 ^ 64 - 1))
-    is-spent change = rw generation-found (eqb-true _ (2 ^ 64 - 1), eq-eqb _ (2 ^ 64 - 1))
+    is-spent write = rw version-found (eqb-true _ lastCount, eq-eqb _ lastCount)
+    is-spent change = rw generation-found (eqb-true _ lastCount, eq-eqb _ lastCount)
 
     pub is-written : (k : Kind) → (written v k ≡ true) ↔ Written v f k
     is-written none = (λ e. tt, λ u. refl)

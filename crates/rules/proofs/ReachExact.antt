@@ -25,7 +25,6 @@ use Rattle.rules.specs.Book.{Book}
 use Rattle.rules.specs.Needs.{needs}
 use Rattle.rules.specs.Steps.{SameCopies}
 use Rattle.rules.specs.Demand2.{HeardBy}
-use Rattle.rules.specs.WholeRounds.{polls}
 use Rattle.rules.specs.ReachExact.{AllOn, Readable, OutOfReach, OverLists, ReachExact}
 use Rattle.rules.proofs.Quorums.{heard-by}
 use Rattle.rules.proofs.Demand1.{refusal-has-no-figures}

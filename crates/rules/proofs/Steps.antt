@@ -17,8 +17,9 @@ use Rattle.quorum.proofs.Promise.{promise}
 use Rattle.layout.specs.Fields.{Copy, Kind, none, read, write, change, Round}
 use Rattle.layout.specs.Newest.{byGeneration, hears}
 use Rattle.layout.specs.Rounds.{withPolled, withPuts}
-use Rattle.layout.specs.View.{State, onBus, own, readPlace, SameContents}
+use Rattle.layout.specs.View.{State, onBus, own, readPlace}
 use Rattle.layout.specs.Updates.{noTarget}
+use Rattle.layout.proofs.Contents.{SameWhole}
 use Rattle.layout.proofs.Fields.{opened}
 use Rattle.layout.proofs.Soundness.{StateSound}
 use Rattle.layout.proofs.Held.{withOff, withRound}
@@ -26,7 +27,7 @@ use Rattle.layout.proofs.Newer.{station-shown, none-shown, by-generation, place
 use Rattle.layout.proofs.Stored.{stored, started}
 use Rattle.plan.specs.Plan.{orderOn, startOn, plannedPolls}
 use Rattle.plan.proofs.Plan.{heard-then, unheard-before, written-from, unwritten}
-use Rattle.rules.specs.Calls.{lay, poll, put, commit, link, reach, diagnose, plan}
+use Rattle.rules.specs.Calls.{poll, put, commit, link, reach, diagnose, plan}
 use Rattle.rules.specs.Figures.{figuresOf, closing}
 use Rattle.rules.specs.After.{stores}
 use Rattle.rules.specs.Demand2.{Found, HeardBy}
@@ -42,7 +43,7 @@ use Rattle.rules.proofs.States.{next}
 
 -- ---- what stays, and what is fresh
 module _ (v w : State) where
-  same-copies : (off : ℕ) (r : Round) → SameContents w (withRound (withOff v off) r) → SameCopies v w
+  same-copies : (off : ℕ) (r : Round) → SameWhole w (withRound (withOff v off) r) → SameCopies v w
   same-copies off r l = record { n = l .n; m = l .m; copies = l .copies }
 
   same-order : (polled d c : ℕ) → w .round ≡ withPuts (withPolled (v .round) polled) d c → SameOrder v w
@@ -103,7 +104,7 @@ three-only false b = inl refl
 
 -- ---- poll
 -- the figure is by the state after it
-module _ (v w : State) (s : ℕ) (l : SameContents w (next v (poll s))) (f : StateSound v) where
+module _ (v w : State) (s : ℕ) (l : SameWhole w (next v (poll s))) (f : StateSound v) where
   pub place-after : readPlace w ≡ readPlace (next v (poll s))
   place-after =
       rw (l .n, l .round) (place-same (w .copies (v .round .item)) (own v) (join (v .round .polled) s) (v .n)
@@ -126,12 +127,12 @@ module _ (v w : State) (s : ℕ) (l : SameContents w (next v (poll s))) (f : Sta
       }
 
 -- ---- openings, put and link
-pub opened-step : (v w : State) (k : Kind) (i x : ℕ) (target : List ℕ) → SameContents w (withRound v (opened k i x target)) → Opened v w k i x target
+pub opened-step : (v w : State) (k : Kind) (i x : ℕ) (target : List ℕ) → SameWhole w (withRound v (opened k i x target)) → Opened v w k i x target
 opened-step v w k i x target l =
     record { copies = same-copies v w (v .off) _ l; off = l .off; round = fresh (w .round) k i x target (l .round) }
 
 module _ (v w : State) (s : ℕ) (small : s < 16) where
-  pub put-step : (sort : ℕ) → SameContents w (next v (put s sort)) → Put v w s sort
+  pub put-step : (sort : ℕ) → SameWhole w (next v (put s sort)) → Put v w s sort
   put-step sort l =
       let d = ap (λ r. r .dataPuts) (l .round) in
       let c = ap (λ r. r .configPuts) (l .round) in
@@ -144,7 +145,7 @@ module _ (v w : State) (s : ℕ) (small : s < 16) where
         configPut = λ e. (d ∙ rw e, joined _ s _ small (c ∙ rw e));
       }
 
-  pub link-step : (state : ℕ) → SameContents w (next v (link s state)) → Linked v w s state
+  pub link-step : (state : ℕ) → SameWhole w (next v (link s state)) → Linked v w s state
   link-step state l =
       let d = ap (λ r. r .dataPuts) (l .round) in
       let c = ap (λ r. r .configPuts) (l .round) in
@@ -165,7 +166,7 @@ module _ (v : State) (f : Found v) (r : Reply) where
   closing-step change busy q = rw (version-found v f, generation-found v f) at q
 
 -- what is stored at a station of the round's item, and what stays elsewhere
-module _ (v w : State) (r : Reply) (l : SameContents w (next v commit)) (item : v .round .item < v .m) (q : Shows r (closing v (v .round .kind))) where
+module _ (v w : State) (r : Reply) (l : SameWhole w (next v commit)) (item : v .round .item < v .m) (q : Shows r (closing v (v .round .kind))) where
   abbrev i : ℕ
   i = v .round .item
 
@@ -274,7 +275,7 @@ module _ (v : State) (i : ℕ) (f : StateSound v) (h : InHearing v i) where
       }
 
 -- ---- lay
-pub laid-step : (v w : State) (n m value : ℕ) (config : List ℕ) → n ≤ 16 → SameContents w (started v n m value config) → Laid w n m value config
+pub laid-step : (v w : State) (n m value : ℕ) (config : List ℕ) → n ≤ 16 → SameWhole w (started v n m value config) → Laid w n m value config
 laid-step v w n m value config few l =
     record {
       stations = l .n;

@@ -15,6 +15,7 @@ use Rattle.quorum.proofs.Promise.{promise}
 use Rattle.layout.specs.Fields.{Kind, none, read, write, change}
 use Rattle.layout.specs.View.{Table, State, view}
 use Rattle.layout.specs.Updates.{setPolled, setPuts}
+use Rattle.layout.proofs.Contents.{by-fields}
 use Rattle.layout.proofs.Again.{polled-again, puts-again, own-polled, own-puts}
 use Rattle.layout.proofs.Fields.{polled-round, puts-round}
 use Rattle.layout.proofs.Soundness.{is-sound, sound-head}
@@ -152,7 +153,7 @@ module _ (t : Table) (b : AreBytes t) (c : Call) (p : Passable c) (e : reply t c
       let alike : Alike (view (after t c)) (next (view t) c) = record {
         isSound = after-sound t c b p e ∙ sym h;
         fits = λ n m. rw (length-kept t c) (f n m);
-        contents = next-view t c e b p;
+        contents = by-fields (next-view t c e b p);
       } in
       same-reply (view (after t c)) (next (view t) c) alike (λ x. is-sound (after t c) x .item) c
 

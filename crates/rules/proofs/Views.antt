@@ -2,7 +2,7 @@
 use mathlib.Core.Path.{_≡_, refl}
 use mathlib.Core.Bool.{true, false}
 use mathlib.Core.List.{List}
-use Prim.Native.Nat.{ℕ, _-_, _^_, _≤_, _<_}
+use Prim.Native.Nat.{ℕ, _^_, _≤_, _<_}
 use native.Mathlib.Omega.{arith}
 use lib.ListN.{length}
 use borrow.Author.Tests.{eqb-false}
@@ -10,7 +10,7 @@ use Rattle.basics.specs.Bytes.{AreBytes}
 use Rattle.quorum.specs.Sets.{within}
 use Rattle.quorum.proofs.Promise.{promise}
 use Rattle.quorum.specs.Configurations.{configSize}
-use Rattle.layout.specs.Fields.{Kind, none, read, write, change, kindOf}
+use Rattle.layout.specs.Fields.{lastCount, Kind, none, read, write, change, kindOf}
 use Rattle.layout.specs.View.{State, view, own, heard, foundByVersion, foundByGeneration}
 use Rattle.layout.specs.Updates.{setRound, noTarget}
 use Rattle.basics.proofs.Parts.{bytes-zeros}
@@ -40,11 +40,11 @@ module _ (t : List ℕ) (b : AreBytes t) where
   closing-fits read h e = let x = found-small h in (x .0 .value, x .0 .version, x .1 .generation)
   closing-fits write h e =
       let x = found-small h in
-      let ne : foundByVersion (view t) .version ≡ 2 ^ 64 - 1 → ⊥ = eqb-false _ _ e in
+      let ne : foundByVersion (view t) .version ≡ lastCount → ⊥ = eqb-false _ _ e in
       (value-small t b, omega (arith, x .0 .version), x .1 .generation)
   closing-fits change h e =
       let x = found-small h in
-      let ne : foundByGeneration (view t) .generation ≡ 2 ^ 64 - 1 → ⊥ = eqb-false _ _ e in
+      let ne : foundByGeneration (view t) .generation ≡ lastCount → ⊥ = eqb-false _ _ e in
       (x .0 .value, x .0 .version, omega (arith, x .1 .generation))
 
 -- ---- openings

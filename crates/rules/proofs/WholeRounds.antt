@@ -3,7 +3,7 @@ use mathlib.Core.Path.{_≡_, refl, sym, ap, _∙_}
 use mathlib.Core.Bool.{Bool, true, false, not, cond, _&&_}
 use mathlib.Core.List.{List, [], _∷_, _++_}
 use mathlib.Core.Logic.{_↔_, inl, inr}
-use Prim.Native.Nat.{ℕ, _-_, _^_, _<_, _≤_}
+use Prim.Native.Nat.{ℕ, _^_, _<_, _≤_}
 use native.Mathlib.Omega.{arith}
 use borrow.Author.Tests.{eqb-true, eq-eqb}
 use Rattle.basics.specs.Bytes.{AreBytes}
@@ -15,11 +15,12 @@ use Rattle.quorum.specs.Configurations.{valid, firstRead, holdsWrite}
 use Rattle.quorum.proofs.Promise.{promise}
 use Rattle.form.specs.Form.{standardForm}
 use Rattle.form.proofs.Laws.{form-writes}
-use Rattle.layout.specs.Fields.{Copy, Kind, none, read, write, change, Round}
+use Rattle.layout.specs.Fields.{lastCount, Copy, Kind, none, read, write, change, Round}
 use Rattle.layout.specs.Newest.{IsNewest, byVersion, byGeneration, hears}
 use Rattle.layout.specs.Rounds.{withPolled, withPuts}
-use Rattle.layout.specs.View.{Table, State, view, SameContents, onBus}
+use Rattle.layout.specs.View.{Table, State, view, onBus}
 use Rattle.layout.specs.Updates.{noTarget}
+use Rattle.layout.proofs.Contents.{SameWhole, by-fields}
 use Rattle.layout.proofs.Fields.{opened}
 use Rattle.layout.proofs.Soundness.{is-sound}
 use Rattle.layout.proofs.Held.{withRound}
@@ -100,10 +101,10 @@ module _ (t : Table) (bytes : AreBytes t) (isSound : view t .isSound ≡ true) (
   spent-at : (counter : Copy → ℕ) (set b : ℕ) → set ⊆ onBus v → counter (copies b) < 2 ^ 64 → IsNewest (λ s. counter (copies s)) set (v .n) b
       → (last (counter (copies b)) ≡ true) ↔ SpentAmong counter v i set
   spent-at counter set b on low n = (
-    λ e. (b, n .inSet, eqb-true _ (2 ^ 64 - 1) e),
+    λ e. (b, n .inSet, eqb-true _ lastCount e),
     λ x. let g = n .greatest (x .0) (on-bus v few (x .0) .0 (on (x .0) (x .1)) .0) (x .1) in
         let e = x .2 in
-        eq-eqb (counter (copies b)) (2 ^ 64 - 1) (omega arith),
+        eq-eqb (counter (copies b)) lastCount (omega arith),
   )
 
   small : (s : ℕ) → Small (copies s)
@@ -220,7 +221,7 @@ pub record Begun (t : Table) (c : Call) (k : Kind) (i x : ℕ) (target : List �
 
 module _ (t : Table) (bytes : AreBytes t) (i : ℕ) where
   begins : (c : Call) (k : Kind) (x : ℕ) (target : List ℕ) → (k ≡ none → ⊥) → Passable c → reply t c .number ≡ 0 → view t .isSound ≡ true → i < view t .m
-      → SameContents (view (after t c)) (withRound (view t) (opened k i x target)) → Begun t c k i x target
+      → SameWhole (view (after t c)) (withRound (view t) (opened k i x target)) → Begun t c k i x target
   unfolding view
   begins c k x target busy p e s l same =
       record {
@@ -229,7 +230,7 @@ module _ (t : Table) (bytes : AreBytes t) (i : ℕ) where
         busy = busy;
         asking = record {
           bytes = bytes-kept t c bytes p;
-          alike = record { isSound = after-sound t c bytes p e ∙ sym s; fits = λ n m. rw (length-kept t c) refl; contents = same };
+          alike = record { isSound = after-sound t c bytes p e ∙ sym s; fits = λ n m. rw (length-kept t c) refl; contents = by-fields same };
         };
       }
 

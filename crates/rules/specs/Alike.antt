@@ -6,18 +6,21 @@ use mathlib.Core.Bool.{true}
 use mathlib.Core.List.{List}
 use Prim.Native.Nat.{ℕ, _<_}
 use Rattle.basics.specs.Bytes.{AreBytes}
-use Rattle.layout.specs.View.{Table, State, SameContents, view}
+use Rattle.layout.specs.View.{Table, State, ContentsBy, view}
 use Rattle.rules.specs.Calls.{Call}
 use Rattle.rules.specs.Passed.{Passable}
 use Rattle.rules.specs.Reply.{replyOf, after}
 use Rattle.rules.specs.Lists.{replies, afterAll, AllPassable}
 
--- both are sound or neither, the same sizes fit, and they have the same contents: states that are equal but for copies of items and stations
--- that there are not
-pub record Alike (v w : State) : Type 0 where
+-- both are sound or neither, the same sizes fit, and they have the same contents but for configurations, which are related
+pub record AlikeBy (R : List ℕ → List ℕ → Type 0) (v w : State) : Type 0 where
   pub isSound : v .isSound ≡ w .isSound
   pub fits : (n m : ℕ) → v .fits n m ≡ w .fits n m
-  pub contents : SameContents v w
+  pub contents : ContentsBy R v w
+
+-- the configurations are equal too: states that are equal but for copies of items and stations that there are not
+abbrev pub Alike : State → State → Type 0
+Alike = AlikeBy _≡_
 
 pub record AlikeTables : Type 0 where
   -- of any states, if the round's item is one of the items where the state is sound, as it is in every table

@@ -5,11 +5,11 @@
 use mathlib.Core.Path.{_≡_}
 use mathlib.Core.Bool.{true, false}
 use mathlib.Core.Logic.{_↔_, _⊎_}
-use Prim.Native.Nat.{ℕ, _-_, _^_}
+use Prim.Native.Nat.{ℕ}
 use Rattle.quorum.specs.Configurations.{readSet, writeSet}
 use Rattle.quorum.specs.Promise.{QuorumIn}
 use Rattle.layout.specs.Newest.{IsNewest}
-use Rattle.layout.specs.Fields.{Copy, Kind, none, read, write, change}
+use Rattle.layout.specs.Fields.{Copy, lastCount, Kind, none, read, write, change}
 use Rattle.layout.specs.Soundness.{sound}
 use Rattle.layout.specs.View.{Table, State, view, own}
 use Rattle.rules.specs.Calls.{commit}
@@ -42,8 +42,8 @@ Heard v f = ReadQuorum (own v) (f .g) (v .round .polled)
 abbrev pub Spent : (v : State) → Found v → Kind → Type 0
 Spent v f none = ⊥
 Spent v f read = ⊥
-Spent v f write = own v (f .b) .version ≡ 2 ^ 64 - 1
-Spent v f change = own v (f .g) .generation ≡ 2 ^ 64 - 1
+Spent v f write = own v (f .b) .version ≡ lastCount
+Spent v f change = own v (f .g) .generation ≡ lastCount
 
 -- the write quorums that source 000 asks for lie within the put sets: of a write, one of the configuration found, by the data puts
 -- (5.2.3, 5.2.4); of a change, one of the new configuration by the data puts (5.2.4) and one of the old by the configuration puts

@@ -26,7 +26,7 @@ replyOf v c = answer (numberOf v c) (figuresOf v c)
 abbrev pub reply : Table → Call → Reply
 reply t c = replyOf (view t) c
 
--- "A refusal leaves the table and every other lent buffer untouched": the table is here; the other buffers are the configuration
--- slices, which are lent for reading only.
+-- "A refusal leaves the table and every other lent buffer untouched": the table is here; the other buffers of a call on a
+-- table are the configuration slices, which are lent for reading only. The outputs of votes and of the writer of forms are in Votes.antt and Writer.antt.
 unfoldable pub after : Table → Call → Table
 after t c = cond (eqb (numberOf (view t) c) 0) (done t (view t) c) t

@@ -1,12 +1,12 @@
 -- The number of each call's reply (document 01, "The calls" and the table of numbers; document 02, 2026-04 and 2026-05).
 use mathlib.Core.Bool.{Bool, true, false, not, cond, _&&_, _||_}
 use mathlib.Core.List.{List, [], _∷_}
-use Prim.Native.Nat.{ℕ, _-_, _^_}
+use Prim.Native.Nat.{ℕ}
 use lib.Dec.{ltb, eqb}
 use Rattle.quorum.specs.Sets.{member}
 use Rattle.quorum.specs.Configurations.{valid, isPlace, holdsWrite}
 use Rattle.layout.specs.Layout.{listed}
-use Rattle.layout.specs.Fields.{Kind, none, read, write, change}
+use Rattle.layout.specs.Fields.{lastCount, Kind, none, read, write, change}
 use Rattle.layout.specs.View.{State, foundByVersion, foundByGeneration, heard}
 use Rattle.plan.specs.Plan.{plannedPolls}
 use Rattle.rules.specs.Calls.{Call, lay, openRead, openWrite, openChange, poll, put, commit, abandon, link, reach, diagnose, plan}
@@ -61,7 +61,7 @@ wrongPut change sort = false
 -- 10, spent: "found version is 2^64 − 1 at a data put or commit of a write, or found generation at a configuration put or commit of a
 -- change"
 abbrev pub last : ℕ → Bool
-last counter = eqb counter (2 ^ 64 - 1)
+last counter = eqb counter lastCount
 
 abbrev pub spent : State → Kind → Bool
 spent v none = false

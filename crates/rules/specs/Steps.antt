@@ -1,7 +1,7 @@
 -- What each call that is done does, and its figures: on the state before and the state after, by members of sets, by stations and by
 -- quorums. It is proved of the bytes (After.antt) and the figures (Figures.antt) for every table of bytes and every call that can be
 -- passed, and lets a reader check them against document 01 without reading either. The figures of a call that has none
--- here are zero (Demand1.antt). "A byte that no rule changes stays as it was": the table after a call that is done is sound (SoundKept.antt) and has
+-- here are zero (Demand1.antt). "a byte that no rule changes stays as it was": the table after a call that is done is sound (SoundKept.antt) and has
 -- the length that it had (Demand1.antt), and the state of a sound table has every byte of it (TableFacts.antt of the layout).
 use mathlib.Core.Path.{_≡_}
 use mathlib.Core.Bool.{true, false, not, _&&_, _||_}

@@ -4,9 +4,9 @@ use mathlib.Core.Path.{_≡_}
 use mathlib.Core.Bool.{true}
 use mathlib.Core.List.{List, [], _∷_}
 use mathlib.Core.Logic.{_↔_, _⊎_}
-use Prim.Native.Nat.{ℕ, _-_, _^_}
+use Prim.Native.Nat.{ℕ}
 use Rattle.quorum.specs.Sets.{member}
-use Rattle.layout.specs.Fields.{Copy}
+use Rattle.layout.specs.Fields.{lastCount, Copy}
 use Rattle.layout.specs.View.{State}
 use Rattle.rules.specs.Calls.{Call, openRead, openWrite, openChange, poll, put}
 use Rattle.rules.specs.Book.{Entry, Gives}
@@ -48,7 +48,7 @@ pub record Closes (number : ℕ) (Heard Spent Written : Type 0) : Type 0 where
 -- some copy of item i at a station of a set of stations below n has the last number of a counter. On bytes a counter has eight of them, so that this number
 -- is the greatest, and the one found.
 abbrev pub SpentAmong : (Copy → ℕ) → State → ℕ → ℕ → Type 0
-SpentAmong counter v i set = (s : ℕ) × (member set s ≡ true) × (counter (v .copies i s) ≡ 2 ^ 64 - 1)
+SpentAmong counter v i set = (s : ℕ) × (member set s ≡ true) × (counter (v .copies i s) ≡ lastCount)
 
 -- a commit that is done, and gives what the book has for the item
 abbrev pub DoneGiving : Entry → Reply → Type 0

@@ -12,7 +12,7 @@ use Rattle.basics.specs.Tests.{all, allBelow}
 use Rattle.basics.specs.Bytes.{number}
 use Rattle.quorum.specs.Sets.{shares, within, unite}
 use Rattle.quorum.specs.Configurations.{valid}
-use Rattle.validity.specs.Pairs.{validAt, validTo}
+use Rattle.validity.specs.Rows.{validAt, validTo}
 use Rattle.basics.proofs.Tests.{same-test, and-left, and-right, and-both, all-true, all-same}
 use Rattle.basics.proofs.Bytes.{number-none, number-suc, number-one}
 use Rattle.quorum.proofs.Promise.{promise}

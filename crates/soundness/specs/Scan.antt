@@ -9,7 +9,7 @@ use Rattle.basics.specs.Tests.{all}
 use Rattle.basics.specs.Bytes.{number}
 use Rattle.quorum.specs.Sets.{shares, within, unite}
 use Rattle.quorum.specs.Configurations.{valid}
-use Rattle.validity.specs.Pairs.{validTo}
+use Rattle.validity.specs.Rows.{validTo}
 use Rattle.layout.specs.Layout.{kindAt, spareAt, valueAt, targetAt, copySize}
 use Rattle.layout.specs.Fields.{Kind, none, read, write, change, kindByte, stations, items, offSet, roundOf}
 use Rattle.layout.specs.Soundness.{isZero, roundSound, soundness}

@@ -1,4 +1,4 @@
--- What lay and open change left when they stored the configuration as it was given: tables of the same house as now.
+-- What lay and open change left when they stored the configuration as it was given: tables that differ from those of now in spelling alone.
 use mathlib.Core.Path.{_≡_, refl}
 use mathlib.Core.List.{List}
 use Prim.Native.Nat.{ℕ}
@@ -23,12 +23,12 @@ use Rattle.rules.proofs.States.{next, laid-sound, renewed}
 use Rattle.rules.proofs.Views.{opens}
 use Rattle.rules.proofs.Laws.{done-allowed, next-view, bytes-kept}
 use Rattle.rules.proofs.Kept.{held-sound, after-sound}
-use Rattle.spelling.specs.Spellings.{SameHouse}
+use Rattle.spelling.specs.Spellings.{SameButSpelling}
 
 -- a table that holds a sound state which differs in spelling from the one after a call that is done
-same-house : (t : Table) (c : Call) → AreBytes t → Passable c → reply t c .number ≡ 0
-    → (u : Table) (w : State) → Holds u w → StateSound w → ContentsBy SamePasses w (next (view t) c) → SameHouse u (after t c)
-same-house t c b p e u w h f same =
+same-but-spelling : (t : Table) (c : Call) → AreBytes t → Passable c → reply t c .number ≡ 0
+    → (u : Table) (w : State) → Holds u w → StateSound w → ContentsBy SamePasses w (next (view t) c) → SameButSpelling u (after t c)
+same-but-spelling t c b p e u w h f same =
     record {
       bytes = (h .bytes, bytes-kept t c b p);
       areSound = (held-sound u w h f, after-sound t c b p e);
@@ -36,14 +36,14 @@ same-house t c b p e u w h f same =
     }
 
 pub lay-before : (t : Table) (n m value : ℕ) (config : List ℕ) → AreBytes t → Passable (lay n m value config) → reply t (lay n m value config) .number ≡ 0
-    → SameHouse (laid n m value config) (after t (lay n m value config))
+    → SameButSpelling (laid n m value config) (after t (lay n m value config))
 unfolding needs
 lay-before t n m value config b p e =
     let c = lay n m value config in
     let a = done-allowed t c e in
     let size = a .0 in
     let ok = promise .valid-exactly n config .1 (a .1 .1 .0) in
-    same-house t c b p e (laid n m value config) (started (view t) n m value config)
+    same-but-spelling t c b p e (laid n m value config) (started (view t) n m value config)
     (holds-laid (view t) n m value config (size .1) (omega arith) (p .0) (promise .valid-length n config ok) (p .1))
     (laid-sound (view t) n m value config size ok)
     (record {
@@ -55,7 +55,7 @@ lay-before t n m value config b p e =
     })
 
 pub change-before : (t : Table) (i : ℕ) (target : List ℕ) → AreBytes t → Passable (openChange i target) → reply t (openChange i target) .number ≡ 0
-    → SameHouse (setRound t (kindByte change) i 0 target) (after t (openChange i target))
+    → SameButSpelling (setRound t (kindByte change) i 0 target) (after t (openChange i target))
 unfolding needs
 change-before t i target b p e =
     let c = openChange i target in
@@ -63,7 +63,7 @@ change-before t i target b p e =
     let a = done-allowed t c e in
     let ok = promise .valid-exactly (v .n) target .1 (a .1 .1 .0) in
     let f = renewed v (is-sound t (a .0)) change i 0 target (a .1 .0) (refl, ok) in
-    same-house t c b p e (setRound t (kindByte change) i 0 target) (withRound v (opened change i 0 target))
+    same-but-spelling t c b p e (setRound t (kindByte change) i 0 target) (withRound v (opened change i 0 target))
     (opens t v (holds-own t b (a .0)) 3 i 0 target (omega arith) (omega arith) (promise .valid-length (v .n) target ok) p f) f
     (record {
       n = refl;

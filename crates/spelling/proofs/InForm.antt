@@ -2,7 +2,7 @@
 use mathlib.Core.Path.{_≡_, refl, sym, ap, _∙_}
 use mathlib.Core.Bool.{Bool, true, cond, _&&_}
 use mathlib.Core.List.{List, [], _∷_}
-use Prim.Native.Nat.{ℕ, zero, suc, _<_}
+use Prim.Native.Nat.{ℕ, zero, suc}
 use native.Mathlib.Omega.{arith}
 use lib.Dec.{eqb}
 use Rattle.basics.specs.Bytes.{AreBytes}
@@ -13,7 +13,8 @@ use Rattle.quorum.proofs.Promise.{promise}
 use Rattle.form.specs.Form.{standardForm}
 use Rattle.form.proofs.Laws.{same-passes-form, own-form, form-nothing}
 use Rattle.layout.specs.Soundness.{sound}
-use Rattle.layout.specs.View.{Table, State, view, SameContents}
+use Rattle.layout.specs.View.{Table, State, view}
+use Rattle.layout.proofs.Contents.{SameWhole, EachConfig, contents-with}
 use Rattle.layout.proofs.TableFacts.{table-facts}
 use Rattle.rules.specs.Calls.{Call, lay, openRead, openWrite, openChange, poll, put, commit, abandon, link, reach, diagnose, plan}
 use Rattle.rules.specs.Passed.{Passable}
@@ -27,9 +28,8 @@ use Rattle.spelling.specs.Spellings.{respelled}
 use Rattle.spelling.proofs.Respelled.{respelled-bytes, respelled-contents, respelled-sound, respelled-passes}
 
 -- the target and every copy's configuration are their own forms
-pub record InForm (v : State) : Type 0 where
-  pub target : standardForm (v .n) (v .round .target) ≡ v .round .target
-  pub copies : (i s : ℕ) → i < v .m → s < v .n → standardForm (v .n) (v .copies i s .config) ≡ v .copies i s .config
+abbrev pub InForm : State → Type 0
+InForm v = EachConfig (λ c. standardForm (v .n) c ≡ c) v
 
 -- ---- call by call
 pub laid-in-form : (v : State) (n m value : ℕ) (config : List ℕ) → Allowed v (lay n m value config) → InForm (next v (lay n m value config))
@@ -61,7 +61,7 @@ module _ (v : State) (h : InForm v) where
   keeps (plan i) a = h
 
 -- ---- a list of calls
-pub in-form-like : (v w : State) → SameContents v w → InForm w → InForm v
+pub in-form-like : (v w : State) → SameWhole v w → InForm w → InForm v
 in-form-like v w l f =
     record {
       target = rw (l .n, l .round) (f .target);
@@ -92,25 +92,8 @@ respelled-in-form t s =
 -- a sound table of bytes in form stays as it is when it is respelled
 pub unchanged : (t : Table) → AreBytes t → sound t ≡ true → InForm (view t) → respelled t ≡ t
 unchanged t b s h =
-    let same = respelled-contents t s in
-    let its = same .round in
-    sym (table-facts .same-bytes t (respelled t) b (respelled-bytes t b) s (respelled-sound t s) (record {
-      n = same .n;
-      m = same .m;
-      off = same .off;
-      round = λ j. record {
-        kind = its .kind j;
-        item = its .item j;
-        polled = its .polled j;
-        dataPuts = its .dataPuts j;
-        configPuts = its .configPuts j;
-        value = its .value j;
-        target = sym (its .target ∙ h .target) j;
-      };
-      copies = λ i k p q. let c = same .copies i k p q in
-          let config = sym (c .config ∙ h .copies i k (rw (same .m) p) (rw (same .n) q)) in
-          λ j. record { version = c .version j; value = c .value j; generation = c .generation j; config = config j };
-    }))
+    sym (table-facts .same-bytes t (respelled t) b (respelled-bytes t b) s (respelled-sound t s)
+    (contents-with (λ c d own form. sym (form ∙ own)) h (respelled-contents t s)))
 
 pub all-in-form : (t : Table) (calls : List Call) → AreBytes t → AllPassable calls → InForm (view t) → InForm (view (afterAll t calls))
 unfolding afterAll

@@ -1,8 +1,8 @@
 mod Respelled
 mod InForm
 mod Before
-mod Houses
+mod ButSpelling
 mod Spellings
 mod Votes
-mod StandardForm
+pub mod StandardForm
 mod Examples

@@ -11,7 +11,7 @@ use borrow.Author.Tests.{ltb-true, ltb-false}
 use Rattle.basics.specs.Bytes.{part, littleEndian, number, AreBytes}
 use Rattle.basics.proofs.Tests.{either, below-suc}
 use Rattle.basics.proofs.Parts.{length-over, part-whole, part-before, bytes-over}
-use Rattle.quorum.specs.Configurations.{configSize, valid}
+use Rattle.quorum.specs.Configurations.{configSize}
 use Rattle.quorum.specs.Promise.{SamePasses}
 use Rattle.form.specs.Form.{standardForm}
 use Rattle.form.proofs.Laws.{form-length, form-bytes, form-valid, form-spells, spells-itself, form-nothing}
@@ -20,6 +20,7 @@ use Rattle.layout.specs.Layout.{stationsAt, itemsAt, offAt, kindAt, itemAt, pol
 use Rattle.layout.specs.Fields.{Copy, newCopy, Kind, none, read, write, change, kindOf, Round, stations, items, roundOf, copyFrom}
 use Rattle.layout.specs.Soundness.{sound}
 use Rattle.layout.specs.View.{Table, view, ContentsBy}
+use Rattle.layout.proofs.Contents.{EachConfig, contents-with}
 use Rattle.layout.proofs.Fields.{target-length, outside, outside-before, outside-after, only-over}
 use Rattle.layout.proofs.Soundness.{RoundFacts, StateSound, sound-facts, facts-sound, sound-head}
 use Rattle.spelling.specs.Spellings.{configAt, respellTo, respelled}
@@ -260,39 +261,25 @@ module _ (t : Table) (s : sound t ≡ true) where
       sized : tableLength (stations t) (items t) ≡ tableLength (stations (respelled t)) (items (respelled t))
       sized = rw (head-kept t s stationsAt 1 (omega arith), head-kept t s itemsAt 1 (omega arith))
 
-  -- ---- the same station sets pass
-  spelled : (c d : List ℕ) → valid (view t .n) c ≡ true → d ≡ standardForm (view t .n) c → SamePasses c d
-  spelled c d v e = rw e (form-spells (view t .n) c v)
+  -- ---- the same station sets pass in the form of the target and of every copy's configuration
+  abbrev Formed : List ℕ → Type 0
+  Formed c = SamePasses c (standardForm (view t .n) c)
 
-  target-passes : (k : Kind) → RoundFacts (view t .n) (view t .round) k → (d : List ℕ) → d ≡ standardForm (view t .n) (view t .round .target)
-      → SamePasses (view t .round .target) d
-  target-passes none f d e = spells-itself (sym (e ∙ zeros-form _ _ target-long (f .5)))
-  target-passes read f d e = spells-itself (sym (e ∙ zeros-form _ _ target-long (f .3)))
-  target-passes write f d e = spells-itself (sym (e ∙ zeros-form _ _ target-long (f .1)))
-  target-passes change f d e = spelled _ d (f .1) e
+  zeros-formed : littleEndian (view t .round .target) ≡ 0 → Formed (view t .round .target)
+  zeros-formed e = spells-itself (sym (zeros-form _ _ target-long e))
+
+  target-formed : (k : Kind) → RoundFacts (view t .n) (view t .round) k → Formed (view t .round .target)
+  target-formed none f = zeros-formed (f .5)
+  target-formed read f = zeros-formed (f .3)
+  target-formed write f = zeros-formed (f .1)
+  target-formed change f = form-spells (view t .n) _ (f .1)
+
+  each-formed : EachConfig Formed (view t)
+  each-formed =
+      record {
+        target = target-formed (view t .round .kind) (state .round);
+        copies = λ i k p q. form-spells (view t .n) _ (state .configs i k p q);
+      }
 
   pub respelled-passes : ContentsBy SamePasses (view t) (view (respelled t))
-  respelled-passes =
-      let same = respelled-contents t s in
-      let its = same .round in
-      record {
-        n = same .n;
-        m = same .m;
-        off = same .off;
-        round = record {
-          kind = its .kind;
-          item = its .item;
-          polled = its .polled;
-          dataPuts = its .dataPuts;
-          configPuts = its .configPuts;
-          value = its .value;
-          target = target-passes (view t .round .kind) (state .round) _ (its .target);
-        };
-        copies = λ i k p q. let x = same .copies i k p q in
-            record {
-              version = x .version;
-              value = x .value;
-              generation = x .generation;
-              config = spelled _ _ (state .configs i k (rw (same .m) p) (rw (same .n) q)) (x .config);
-            };
-      }
+  respelled-passes = contents-with (λ c d formed form. rw form formed) each-formed (respelled-contents t s)

@@ -19,9 +19,10 @@ use Rattle.layout.specs.Fields.{kindByte, change}
 use Rattle.layout.specs.Soundness.{sound}
 use Rattle.layout.specs.Updates.{laid, setRound}
 use Rattle.layout.specs.View.{Table, view}
+use Rattle.layout.proofs.Contents.{contents-back, contents-on}
 use Rattle.layout.proofs.Soundness.{is-sound, sound-facts}
 use Rattle.layout.proofs.TableFacts.{table-facts}
-use Rattle.rules.specs.Calls.{Call, lay, openChange}
+use Rattle.rules.specs.Calls.{Call, lay, openChange, commit}
 use Rattle.rules.specs.Rules.{first, tests, refusals, numberOf, noSize, noItem, isIdle}
 use Rattle.rules.specs.Figures.{figuresOf, oneFigure}
 use Rattle.rules.specs.After.{done}
@@ -29,13 +30,19 @@ use Rattle.rules.specs.Needs.{needs}
 use Rattle.rules.specs.Passed.{Passable}
 use Rattle.rules.specs.Reply.{answer, replyOf, reply, after}
 use Rattle.rules.specs.Lists.{replies, afterAll, AllPassable}
+use Rattle.rules.specs.Alike.{AlikeBy}
+use Rattle.rules.specs.Book.{Book, fed}
+use Rattle.rules.specs.Demand3.{OneCopy}
+use Rattle.rules.specs.declared.Reply.{Reply}
 use Rattle.rules.proofs.Laws.{done-allowed, next-view, bytes-kept}
 use Rattle.rules.proofs.Kept.{after-sound, stays-sound}
-use Rattle.rules.proofs.Alike.{AlikeBy, Agree, reply-alike, all-alike}
-use Rattle.spelling.specs.Spellings.{SameCall, the-same, of-lay, of-change, SameCalls, SameHouse, respelled, anyPlace, butForPlace}
-use Rattle.spelling.specs.Spellings.{Leaves, now, given-laid, given-target, AllLeave, ends, next, SameReplies, Spellings}
+use Rattle.rules.proofs.Alike.{Agree, reply-alike, number-eq, all-alike}
+use Rattle.rules.proofs.Demands.{demand3}
+use Rattle.spelling.specs.Spellings.{SameCall, the-same, of-lay, of-change, SameCalls, SameButSpelling, respelled, anyPlace, butForPlace}
+use Rattle.spelling.specs.Spellings.{Leaves, now, given-laid, given-target, ByEither, ends, next}
+use Rattle.spelling.specs.Spellings.{butForPlaces, SameRepliesButPlace, Spellings}
 use Rattle.spelling.proofs.Before.{lay-before, change-before}
-use Rattle.spelling.proofs.Houses.{house-back, house-on}
+use Rattle.spelling.proofs.ButSpelling.{but-back, but-on}
 use Rattle.spelling.proofs.InForm.{respelled-in-form, unchanged, all-in-form, laid-in-form, in-form-like}
 use Rattle.spelling.proofs.Respelled.{respelled-bytes, respelled-length, respelled-contents, respelled-sound, respelled-passes}
 
@@ -98,8 +105,8 @@ spelled-agree =
       diagnosed = λ c d e set number station j. answer 0 (record { first = number; second = station; third = same-place c d e set j });
     }
 
--- tables of one house look alike
-alike : (t u : Table) → SameHouse t u → AlikeBy SamePasses (view t) (view u)
+-- tables that differ in spelling alone look alike but for configurations
+alike : (t u : Table) → SameButSpelling t u → AlikeBy SamePasses (view t) (view u)
 unfolding view
 alike t u h =
     let same = h .contents in
@@ -122,8 +129,8 @@ unfolding afterAll
 all-sound t [] b p s = s
 all-sound t (c ∷ calls) b p s = all-sound (after t c) calls (bytes-kept t c b (p .0)) (p .1) (stays-sound t c b (p .0) s)
 
-module _ (t u : Table) (h : SameHouse t u) where
-  stays-same : (calls : List Call) → AllPassable calls → SameHouse (afterAll t calls) (afterAll u calls)
+module _ (t u : Table) (h : SameButSpelling t u) where
+  stays-same : (calls : List Call) → AllPassable calls → SameButSpelling (afterAll t calls) (afterAll u calls)
   stays-same calls p =
       let b = h .bytes in
       let s = h .areSound in
@@ -134,62 +141,38 @@ module _ (t u : Table) (h : SameHouse t u) where
       }
 
   -- one call
-  same-after : (c : Call) → Passable c → SameHouse (after t c) (after u c)
+  same-after : (c : Call) → Passable c → SameButSpelling (after t c) (after u c)
   unfolding afterAll
   same-after c p = stays-same (c ∷ []) (p, tt)
 
-  same-replies : SameReplies t u
-  same-replies calls p c =
+  same-replies-but-place : SameRepliesButPlace t u
+  same-replies-but-place calls p c =
       reply-alike spelled-agree _ _ (alike (afterAll t calls) (afterAll u calls) (stays-same calls p)) (λ s. is-sound (afterAll t calls) s .item) c
 
 -- ---- tables respelled
-same-respelled : (t u : Table) → SameHouse t u → respelled t ≡ respelled u
+same-respelled : (t u : Table) → SameButSpelling t u → respelled t ≡ respelled u
 same-respelled t u h =
     let st = h .areSound .0 in
     let su = h .areSound .1 in
-    let same = h .contents in
-    let a = respelled-contents t st in
-    let b = respelled-contents u su in
-    let its = same .round in
     table-facts .same-bytes (respelled t) (respelled u) (respelled-bytes t (h .bytes .0)) (respelled-bytes u (h .bytes .1))
-    (respelled-sound t st) (respelled-sound u su) (record {
-      n = sym (a .n) ∙ same .n ∙ b .n;
-      m = sym (a .m) ∙ same .m ∙ b .m;
-      off = sym (a .off) ∙ same .off ∙ b .off;
-      round = λ j. record {
-        kind = (sym (a .round .kind) ∙ its .kind ∙ b .round .kind) j;
-        item = (sym (a .round .item) ∙ its .item ∙ b .round .item) j;
-        polled = (sym (a .round .polled) ∙ its .polled ∙ b .round .polled) j;
-        dataPuts = (sym (a .round .dataPuts) ∙ its .dataPuts ∙ b .round .dataPuts) j;
-        configPuts = (sym (a .round .configPuts) ∙ its .configPuts ∙ b .round .configPuts) j;
-        value = (sym (a .round .value) ∙ its .value ∙ b .round .value) j;
-        target = (a .round .target ∙ one (same .n) (its .target) ∙ sym (b .round .target)) j;
-      };
-      copies = λ i k p q. let p′ = rw (← b .m) at p in let q′ = rw (← b .n) at q in
-          let x = a .copies i k (rw (← a .m, same .m) p′) (rw (← a .n, same .n) q′) in
-          let c = same .copies i k p′ q′ in
-          let y = b .copies i k p q in
-          λ j. record {
-            version = (sym (x .version) ∙ c .version ∙ y .version) j;
-            value = (sym (x .value) ∙ c .value ∙ y .value) j;
-            generation = (sym (x .generation) ∙ c .generation ∙ y .generation) j;
-            config = (x .config ∙ one (same .n) (c .config) ∙ sym (y .config)) j;
-          };
-    })
-  where
-    one : {n k : ℕ} {c d : List ℕ} → n ≡ k → SamePasses c d → standardForm n c ≡ standardForm k d
-    one {n = n} {c = c} {d = d} e p = same-passes-form n c d p ∙ ap (λ x. standardForm x d) e
+    (respelled-sound t st) (respelled-sound u su)
+    (contents-on (λ c d e form own. form ∙ ap (λ n. standardForm n d) (h .contents .n) ∙ sym own)
+    (contents-on (λ c d e form passes. form ∙ same-passes-form (view t .n) d e passes)
+    (contents-back (λ c d form. form) (respelled-contents t st)) (h .contents)) (respelled-contents u su))
 
-house : (t : Table) → AreBytes t → sound t ≡ true → SameHouse t (respelled t)
-house t b s = record { bytes = (b, respelled-bytes t b); areSound = (s, respelled-sound t s); contents = respelled-passes t s }
+but-respelled : (t : Table) → AreBytes t → sound t ≡ true → SameButSpelling t (respelled t)
+but-respelled t b s = record { bytes = (b, respelled-bytes t b); areSound = (s, respelled-sound t s); contents = respelled-passes t s }
 
-one-respelling : (t u : Table) → AreBytes t → AreBytes u → sound t ≡ true → sound u ≡ true → SameHouse t u ↔ (respelled t ≡ respelled u)
-one-respelling t u bt bu st su = (same-respelled t u, λ e. house-on (rw e at (house t bt st)) (house-back (house u bu su)))
+but-itself : (t : Table) → AreBytes t → sound t ≡ true → SameButSpelling t t
+but-itself t b s = but-on (but-respelled t b s) (but-back (but-respelled t b s))
+
+one-respelling : (t u : Table) → AreBytes t → AreBytes u → sound t ≡ true → sound u ≡ true → SameButSpelling t u ↔ (respelled t ≡ respelled u)
+one-respelling t u bt bu st su = (same-respelled t u, λ e. but-on (rw e at (but-respelled t bt st)) (but-back (but-respelled u bu su)))
 
 respelled-after : (t : Table) (calls : List Call) → AreBytes t → sound t ≡ true → AllPassable calls
     → afterAll (respelled t) calls ≡ respelled (afterAll t calls)
 respelled-after t calls b s p =
-    let h = stays-same t (respelled t) (house t b s) calls p in
+    let h = stays-same t (respelled t) (but-respelled t b s) calls p in
     sym (unchanged (afterAll (respelled t) calls) (h .bytes .1) (h .areSound .1)
     (all-in-form (respelled t) calls (respelled-bytes t b) p (respelled-in-form t s)))
     ∙ sym (same-respelled (afterAll t calls) (afterAll (respelled t) calls) h)
@@ -206,33 +189,68 @@ always-in-form t n m value config calls b p e =
     (all-in-form u calls bu (p .1) (in-form-like _ _ (next-view t c e b (p .0)) (laid-in-form (view t) n m value config (done-allowed t c e))))
 
 -- ---- the store before this request
--- a call on tables of one house, by either store
-step-before : (t u w : Table) (c : Call) → SameHouse t u → Passable c → Leaves t c w → SameHouse w (after u c)
+-- a call by either store
+step-before : (t u w : Table) (c : Call) → SameButSpelling t u → Passable c → Leaves t c w → SameButSpelling w (after u c)
 step-before t u _ c h p now = same-after t u h c p
 step-before t u _ _ h p (given-laid {n = n} {m = m} {value = value} {config = config} e) =
-    house-on (lay-before t n m value config (h .bytes .0) p e) (same-after t u h (lay n m value config) p)
+    but-on (lay-before t n m value config (h .bytes .0) p e) (same-after t u h (lay n m value config) p)
 step-before t u _ _ h p (given-target {i = i} {target = target} e) =
-    house-on (change-before t i target (h .bytes .0) p e) (same-after t u h (openChange i target) p)
+    but-on (change-before t i target (h .bytes .0) p e) (same-after t u h (openChange i target) p)
 
-as-before : (t u w : Table) (calls : List Call) → SameHouse t u → AllPassable calls → AllLeave t calls w → SameHouse w (afterAll u calls)
-unfolding afterAll
-as-before t u _ [] h p ends = h
-as-before t u w (c ∷ calls) h p (next {u = v} one rest) = as-before v (after u c) w calls (step-before t u v c h (p .0) one) (p .1) rest
+as-before : (t u w : Table) (calls : List Call) (rest : List Reply) → SameButSpelling t u → AllPassable calls → ByEither t calls rest w
+    → (butForPlaces calls rest ≡ butForPlaces calls (replies u calls)) × SameButSpelling w (afterAll u calls)
+unfolding replies afterAll butForPlaces
+as-before t u _ [] _ h p ends = (refl, h)
+as-before t u w (c ∷ calls) _ h p (next {u = v} {rest = rest} one run) =
+    let on = as-before v (after u c) w calls rest (step-before t u v c h (p .0) one) (p .1) run in
+    (λ j. same-replies-but-place t u h [] tt c j ∷ on .0 j, on .1)
+
+-- the book sees nothing of a read place: it is fed numbers, and only a commit's figures are held to it
+one-copy-like : (b : Book) (t u w : Table) (calls : List Call) (rest : List Reply) → SameButSpelling t u → AllPassable calls → ByEither t calls rest w
+    → OneCopy b calls (replies u calls) → OneCopy b calls rest
+unfolding replies afterAll
+one-copy-like b t u _ [] _ h p ends one = tt
+one-copy-like b t u w (c ∷ calls) _ h p (next {u = v} {rest = rest} leaves run) one = (
+  λ e. rw (commit-same e) (one .0 e),
+  one-copy-like (fed b c (reply t c .number)) v (after u c) w calls rest (step-before t u v c h (p .0) leaves) (p .1) run (rw number (one .1)),
+)
+  where
+    number : reply t c .number ≡ reply u c .number
+    number = number-eq spelled-agree t u c (h .bytes .0) (h .bytes .1) (p .0) (alike t u h)
+
+    commit-same : c ≡ commit → reply t c ≡ reply u c
+    commit-same e = rw e (same-replies-but-place t u h [] tt commit)
+
+-- a call that is done, on any table, by either store
+done-before : (t u : Table) (c : Call) → AreBytes t → Passable c → reply t c .number ≡ 0 → Leaves t c u → SameButSpelling u (after t c)
+done-before t _ c b p e now = but-itself (after t c) (bytes-kept t c b p) (after-sound t c b p e)
+done-before t _ _ b p e (given-laid {n = n} {m = m} {value = value} {config = config} _) = lay-before t n m value config b p e
+done-before t _ _ b p e (given-target {i = i} {target = target} _) = change-before t i target b p e
+
+one-copy-as-before : (t w : Table) (b : Book) (n m value : ℕ) (config : List ℕ) (calls : List Call) (rest : List Reply)
+    → AreBytes t → AllPassable (lay n m value config ∷ calls) → reply t (lay n m value config) .number ≡ 0
+    → ByEither t (lay n m value config ∷ calls) rest w → OneCopy b (lay n m value config ∷ calls) rest
+unfolding replies
+one-copy-as-before t w b n m value config calls _ bytes p e (next {u = u} {rest = rest} leaves run) =
+    let one = demand3 .one-copy t b n m value config calls bytes p e in
+    let c = lay n m value config in
+    (one .0, one-copy-like _ u (after t c) w calls rest (done-before t u c bytes (p .0) e leaves) (p .1) run (one .1))
 
 pub spellings : Spellings
 spellings =
     record {
       one-form = one-form;
       always-in-form = always-in-form;
-      same-replies = same-replies;
+      same-replies-but-place = same-replies-but-place;
       stays-same = λ t u calls h p. stays-same t u h calls p;
       one-respelling = one-respelling;
       respelled-contents = respelled-contents;
       respelled-sound = respelled-sound;
       respelled-length = respelled-length;
       respelled-bytes = respelled-bytes;
-      no-harm = λ t b s. same-replies (respelled t) t (house-back (house t b s));
+      no-harm = λ t b s. same-replies-but-place (respelled t) t (but-back (but-respelled t b s));
       respelled-after = respelled-after;
       lay-before = lay-before;
       as-before = as-before;
+      one-copy-as-before = one-copy-as-before;
     }

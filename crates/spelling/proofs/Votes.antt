@@ -9,7 +9,7 @@ use Rattle.basics.proofs.Listing.{same-listing, same-numbers}
 use Rattle.quorum.specs.Configurations.{readSet, writeSet}
 use Rattle.quorum.specs.Promise.{QuorumIn, Side}
 use Rattle.quorum.proofs.Promise.{promise}
-use Rattle.form.specs.Sides.{configBytes, Lists}
+use Rattle.form.specs.Sides.{configBytes, SideLists}
 use Rattle.form.specs.Form.{formSets, standardForm}
 use Rattle.form.proofs.Smallest.{stays-used, stays-place, stays-smallest}
 use Rattle.form.proofs.Laws.{Staying, form-listing, config-same}
@@ -20,7 +20,7 @@ use Rattle.votes.proofs.Listing.{smallest-listing}
 use Rattle.votes.proofs.Claims.{claims}
 
 -- ---- one side, with the smallest sets in its places, that holds one within a set exactly if the set reaches the threshold
-module _ (votes : List ℕ) (threshold : ℕ) (side : ℕ → ℕ) (lists : Lists (Smallest votes threshold) side)
+module _ (votes : List ℕ) (threshold : ℕ) (side : ℕ → ℕ) (lists : SideLists (Smallest votes threshold) side)
     (reach : (set : ℕ) → QuorumIn side set ↔ Reaches votes threshold set) where
   smallest-stays : (x : ℕ) → Smallest votes threshold x ↔ Staying side x
   smallest-stays x = (

@@ -2,8 +2,9 @@
 use mathlib.Core.Bool.{not, cond, _&&_}
 use mathlib.Core.List.{List, [], _∷_}
 use Prim.Native.Nat.{ℕ}
-use lib.Dec.{leb, eqb}
+use lib.Dec.{eqb}
 use lib.ListN.{length}
+use Rattle.quorum.specs.Sets.{listedStations}
 use Rattle.quorum.specs.Configurations.{configSize, valid}
 use Rattle.form.specs.Form.{standardForm}
 use Rattle.rules.specs.Rules.{Chain, first}
@@ -13,7 +14,7 @@ use Rattle.rules.specs.declared.Reply.{Reply}
 -- is not valid.
 unfoldable pub formRefusals : ℕ → List ℕ → List ℕ → Chain
 formRefusals n config out =
-    (not (leb 1 n && leb n 16 && eqb (length out) configSize), 2)
+    (not (listedStations n && eqb (length out) configSize), 2)
     ∷ (not (valid n config), 3)
     ∷ []
 

@@ -1,10 +1,10 @@
 // One copy: its two counters, where it stands, its fields, and the writer that is lent the table from the copy on.
 ghost use mathlib.Core.Path.{_≡_};
-ghost use Prim.Native.Nat.{_+_, _-_, _^_, _≤_, _<_};
+ghost use Prim.Native.Nat.{_+_, _≤_, _<_};
 ghost use lib.ListN.{length};
 ghost use lib.Dec.{ltb, eqb};
 ghost use Rattle.layout.specs.Layout.{copySize, address};
-ghost use Rattle.layout.specs.Fields.{copyFrom};
+ghost use Rattle.layout.specs.Fields.{copyFrom, lastCount};
 ghost use Rattle.layout.specs.Updates.{putData, putConfig};
 use crate::number::put_config_bytes;
 use crate::number::put_u64;
@@ -29,13 +29,13 @@ impl Version {
 
     // Whether there is none after it.
     pub fn is_last(self) -> bool
-        ensures { λ r. ⌜ r ≡ eqb (self .0) (2 ^ 64 - 1) ⌝ }
+        ensures { λ r. ⌜ r ≡ eqb (self .0) lastCount ⌝ }
     {
         self.0 == 18446744073709551615
     }
 
     pub fn next(self) -> Version
-        requires { ⌜ self .0 < 2 ^ 64 - 1 ⌝ }
+        requires { ⌜ self .0 < lastCount ⌝ }
         ensures { λ r. ⌜ r .0 ≡ self .0 + 1 ⌝ }
     {
         Version(self.0 + 1)
@@ -54,13 +54,13 @@ impl Generation {
 
     // Whether there is none after it.
     pub fn is_last(self) -> bool
-        ensures { λ r. ⌜ r ≡ eqb (self .0) (2 ^ 64 - 1) ⌝ }
+        ensures { λ r. ⌜ r ≡ eqb (self .0) lastCount ⌝ }
     {
         self.0 == 18446744073709551615
     }
 
     pub fn next(self) -> Generation
-        requires { ⌜ self .0 < 2 ^ 64 - 1 ⌝ }
+        requires { ⌜ self .0 < lastCount ⌝ }
         ensures { λ r. ⌜ r .0 ≡ self .0 + 1 ⌝ }
     {
         Generation(self.0 + 1)

@@ -13,7 +13,7 @@ use borrow.Author.Tests.{eqb-true, ltb-true, ltb-false}
 use Rattle.basics.specs.Tests.{allBelow}
 use Rattle.basics.specs.Bytes.{part}
 use Rattle.quorum.specs.Configurations.{valid, configSize}
-use Rattle.validity.specs.Pairs.{validAt, validTo, sameAgain, sameLane, sameBlock}
+use Rattle.validity.specs.Rows.{validAt, validTo, sameAgain, sameLane, sameBlock}
 use Rattle.basics.proofs.Parts.{part-length}
 use Rattle.basics.proofs.Tests.{clash, by-cases, and-both, all-below, below-all, either}
 

@@ -33,11 +33,12 @@ pub true-votes : (votes : List ℕ) (read write : ℕ) → (all (trueVotes votes
 unfolding trueVotes
 true-votes votes read write = (
   λ e. let t = all-true (trueVotes votes read write) e in
-      let u = t .1 .1 in
+      let stations = promise .listed-stations (length votes) .0 (t .0) in
+      let u = t .1 in
       let v = u .1 .1 in
       record {
-        some = leb-true 1 (length votes) (t .0);
-        few = leb-true (length votes) 16 (t .1 .0);
+        some = stations .0;
+        few = stations .1;
         read-positive = leb-true 1 read (u .0);
         read-reached = leb-true read (total votes) (u .1 .0);
         write-positive = leb-true 1 write (v .0);
@@ -45,8 +46,7 @@ true-votes votes read write = (
         together = ltb-true (total votes) (read + write) (v .1 .1 .0);
       },
   λ t. true-all (trueVotes votes read write)
-      (le-leb 1 (length votes) (t .some)
-      also le-leb (length votes) 16 (t .few)
+      (promise .listed-stations (length votes) .1 (t .some, t .few)
       also le-leb 1 read (t .read-positive)
       also le-leb read (total votes) (t .read-reached)
       also le-leb 1 write (t .write-positive)

@@ -10,7 +10,7 @@ use Rattle.basics.specs.Tests.{Some}
 use Rattle.quorum.specs.Sets.{used, full}
 use Rattle.quorum.specs.Promise.{LiesIn, Side}
 use Rattle.quorum.proofs.Promise.{promise}
-use Rattle.form.specs.Sides.{Lists}
+use Rattle.form.specs.Sides.{SideLists}
 use Rattle.form.proofs.Sides.{Filled, two-bytes, lists, packed}
 use Rattle.votes.specs.Votes.{total, smallestSets}
 use Rattle.votes.specs.Claims.{Reaches, Smallest, MoreThanEight}
@@ -44,7 +44,7 @@ fill votes threshold side few positive reached no-more back =
     }
 
 module _ {votes : List ℕ} {threshold : ℕ} {side : ℕ → ℕ} (listed : Listed votes threshold side) where
-  pub lists-smallest : Lists (Smallest votes threshold) side
+  pub lists-smallest : SideLists (Smallest votes threshold) side
   lists-smallest = lists (listed .filled)
 
   -- a set that reaches the threshold has a station: it shares one with all stations

@@ -11,7 +11,7 @@ use Rattle.basics.specs.Bytes.{AreBytes}
 use Rattle.quorum.specs.Sets.{member, remove, full}
 use Rattle.quorum.specs.Configurations.{configSize, readSet, writeSet, valid, holdsRead, holdsWrite}
 use Rattle.quorum.specs.Promise.{_⊆_}
-use Rattle.form.specs.Sides.{Lists}
+use Rattle.form.specs.Sides.{SideLists}
 use Rattle.layout.specs.Layout.{tableLength}
 use Rattle.layout.specs.View.{Table}
 use Rattle.rules.specs.Calls.{lay}
@@ -61,8 +61,8 @@ pub record Configured (votes : List ℕ) (read write : ℕ) (config : List ℕ) 
   pub read-exactly : (set : ℕ) → (holdsRead config set ≡ true) ↔ Reaches votes read set
   pub write-exactly : (set : ℕ) → (holdsWrite config set ≡ true) ↔ Reaches votes write set
   -- each side lists the smallest sets
-  pub reads : Lists (Smallest votes read) (readSet config)
-  pub writes : Lists (Smallest votes write) (writeSet config)
+  pub reads : SideLists (Smallest votes read) (readSet config)
+  pub writes : SideLists (Smallest votes write) (writeSet config)
   -- a lay of as many stations takes it
   pub lay-takes : (table : Table) (m value : ℕ) → 1 ≤ m → m ≤ 32 → length table ≡ tableLength (length votes) m
       → reply table (lay (length votes) m value config) .number ≡ 0

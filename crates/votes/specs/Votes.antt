@@ -8,7 +8,7 @@ use lib.Dec.{ltb, leb, eqb}
 use lib.ListN.{length, getD}
 use Rattle.basics.specs.Tests.{all, allBelow}
 use Rattle.basics.specs.Listing.{passing}
-use Rattle.quorum.specs.Sets.{member, remove}
+use Rattle.quorum.specs.Sets.{listedStations, member, remove}
 use Rattle.quorum.specs.Configurations.{configSize}
 use Rattle.form.specs.Sides.{configBytes}
 use Rattle.rules.specs.Rules.{Chain, first}
@@ -45,8 +45,7 @@ smallestSets votes threshold = passing (smallest votes threshold) (2 ^ length vo
 -- not exceed the total)"
 unfoldable pub trueVotes : List ℕ → ℕ → ℕ → List Bool
 trueVotes votes read write =
-    leb 1 (length votes)
-    ∷ leb (length votes) 16
+    listedStations (length votes)
     ∷ leb 1 read
     ∷ leb read (total votes)
     ∷ leb 1 write

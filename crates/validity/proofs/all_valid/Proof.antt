@@ -7,7 +7,7 @@ use Prim.Native.Nat.{_+_, _-_, _*_, _≤_}
 use lib.ListN.{length}
 use borrow.Author.Tests.{not-true, not-false}
 use Rattle.quorum.specs.Configurations.{configSize}
-use Rattle.validity.specs.Pairs.{validAt, validTo}
+use Rattle.validity.specs.Rows.{validAt, validTo}
 use Rattle.validity.proofs.Same.{none-yet, one-more, one-fails}
 use Rattle.validity.proofs.all_valid.Statement.{statement}
 use Rattle.validity.proofs.all_valid.Tie as tie

@@ -2,7 +2,7 @@ use borrow.Author.Needs.{needs}
 use native.Mathlib.Omega.{arith}
 use mathlib.Core.Path.{_∙_}
 use Rattle.layout.specs.Layout.{copySize}
-use Rattle.validity.proofs.Pairs.{invalid}
+use Rattle.pairs.proofs.Pairs.{invalid}
 use Rattle.validity.proofs.Same.{one-only}
 use Rattle.validity.proofs.is_valid.Statement.{statement}
 use Rattle.validity.proofs.is_valid.Tie as tie

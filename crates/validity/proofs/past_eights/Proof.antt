@@ -5,7 +5,7 @@ use Prim.Native.Nat.{ℕ, _+_, _-_, _*_, _≤_, _<_}
 use lib.ListN.{length}
 use borrow.Author.Tests.{not-false}
 use Rattle.quorum.specs.Configurations.{configSize}
-use Rattle.validity.specs.Pairs.{StillValid}
+use Rattle.validity.specs.Rows.{StillValid}
 use Rattle.validity.proofs.Same.{stride-on, eight-more}
 use Rattle.validity.proofs.past_eights.Statement.{statement}
 use Rattle.validity.proofs.past_eights.Tie as tie

@@ -5,7 +5,7 @@ use Prim.Native.Nat.{_+_, _-_, _*_, _≤_}
 use lib.ListN.{length}
 use borrow.Author.Tests.{not-false}
 use Rattle.quorum.specs.Configurations.{configSize}
-use Rattle.validity.specs.Pairs.{StillValid}
+use Rattle.validity.specs.Rows.{StillValid}
 use Rattle.validity.proofs.Same.{stride-next, next-same}
 use Rattle.validity.proofs.past_same.Statement.{statement}
 use Rattle.validity.proofs.past_same.Tie as tie

@@ -5,7 +5,7 @@ use lib.ListN.{getD}
 use lib.Dec.{eqb}
 use Rattle.quorum.specs.Configurations.{configSize}
 use Rattle.basics.specs.Tests.{allBelow}
-use Rattle.validity.specs.Pairs.{sameAgain}
+use Rattle.validity.specs.Rows.{sameAgain}
 use Rattle.basics.proofs.Tests.{all-start, all-turn, all-end}
 use Rattle.validity.proofs.same_again.Statement.{statement}
 use Rattle.validity.proofs.same_again.Tie as tie

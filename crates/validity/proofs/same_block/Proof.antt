@@ -5,7 +5,7 @@ use Prim.Native.Nat.{_+_, _-_, _≤_}
 use Rattle.quorum.specs.Configurations.{configSize}
 use Rattle.basics.specs.Tests.{allBelow}
 use Rattle.basics.proofs.Tests.{all-start, all-turn, all-end}
-use Rattle.validity.specs.Pairs.{sameLane, sameBlock}
+use Rattle.validity.specs.Rows.{sameLane, sameBlock}
 use Rattle.validity.proofs.same_block.Statement.{statement}
 use Rattle.validity.proofs.same_block.Tie as tie
 

@@ -6,7 +6,7 @@ use Rattle.basics.specs.Tests.{allBelow}
 use Rattle.basics.proofs.Tests.{all-start, all-turn, all-end}
 use lib.ListN.{length, getD}
 use lib.Dec.{eqb}
-use Rattle.validity.specs.Pairs.{sameLane}
+use Rattle.validity.specs.Rows.{sameLane}
 use Rattle.validity.proofs.same_lane.Statement.{statement}
 use Rattle.validity.proofs.same_lane.Tie as tie
 

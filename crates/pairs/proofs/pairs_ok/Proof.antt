@@ -3,10 +3,10 @@ use Prim.Native.Nat.{_-_, _≤_}
 use mathlib.Core.Path.{_≡_, sym}
 use lib.ListN.{getD}
 use Rattle.basics.specs.Tests.{allBelow}
-use Rattle.validity.specs.Pairs.{filledSide, rowOk, pairsOk}
+use Rattle.pairs.specs.Pairs.{filledSide, rowOk, pairsOk}
 use Rattle.basics.proofs.Tests.{all-start, all-turn, all-end}
-use Rattle.validity.proofs.pairs_ok.Statement.{statement}
-use Rattle.validity.proofs.pairs_ok.Tie as tie
+use Rattle.pairs.proofs.pairs_ok.Statement.{statement}
+use Rattle.pairs.proofs.pairs_ok.Tie as tie
 
 abbrev Inv-loop : tie.InvT-loop
 Inv-loop config reads writes ok₀ k₀ ok k =

@@ -4,10 +4,10 @@ use mathlib.Core.Path.{_≡_, sym}
 use lib.ListN.{getD}
 use Rattle.basics.specs.Tests.{allBelow}
 use Rattle.quorum.specs.Sets.{shares}
-use Rattle.validity.specs.Pairs.{rowOk}
+use Rattle.pairs.specs.Pairs.{rowOk}
 use Rattle.basics.proofs.Tests.{all-start, all-turn, all-end}
-use Rattle.validity.proofs.row_ok.Statement.{statement}
-use Rattle.validity.proofs.row_ok.Tie as tie
+use Rattle.pairs.proofs.row_ok.Statement.{statement}
+use Rattle.pairs.proofs.row_ok.Tie as tie
 
 abbrev Inv-loop : tie.InvT-loop
 Inv-loop read writes ok₀ k₀ ok k = (k ≤ 8) × (ok ≡ allBelow (λ j. shares read (getD writes j 0)) k)

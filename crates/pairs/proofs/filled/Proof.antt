@@ -1,7 +1,7 @@
 use borrow.Author.Tests.{eq-eqb, ne-eqb}
-use Rattle.validity.specs.Pairs.{filled}
-use Rattle.validity.proofs.filled.Statement.{statement}
-use Rattle.validity.proofs.filled.Tie as tie
+use Rattle.pairs.specs.Pairs.{filled}
+use Rattle.pairs.proofs.filled.Statement.{statement}
+use Rattle.pairs.proofs.filled.Tie as tie
 
 returns : tie.Need-returns
 unfolding filled

@@ -1,7 +1,7 @@
-use Rattle.validity.specs.Pairs.{outsideOf}
+use Rattle.pairs.specs.Pairs.{outsideOf}
 use borrow.Author.Needs.{needs}
-use Rattle.validity.proofs.outside.Statement.{statement}
-use Rattle.validity.proofs.outside.Tie as tie
+use Rattle.pairs.proofs.outside.Statement.{statement}
+use Rattle.pairs.proofs.outside.Tie as tie
 
 all-stations-requires : tie.Need-all-stations-requires
 all-stations-requires c κs = search needs

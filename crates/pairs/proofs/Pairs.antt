@@ -12,7 +12,7 @@ use lib.Bits.{bitAnd, bitOr, or-add-and, and-le-r, or-zero-l, and-block}
 use borrow.Author.Tests.{eq-eqb, ne-eqb, eqb-true, eqb-false, ltb-true, ltb-false, lt-ltb, not-true, not-false}
 use Rattle.quorum.specs.Sets.{member, used, holds, shares, within, minus, full}
 use Rattle.quorum.specs.Configurations.{setAt, readSet, writeSet, valid, configSize}
-use Rattle.validity.specs.Pairs.{filled, filledSide, rowOk, pairsOk, four, FourFit, outsideOf, fourWithin}
+use Rattle.pairs.specs.Pairs.{filled, filledSide, rowOk, pairsOk, four, FourFit, outsideOf, fourWithin}
 use Rattle.quorum.specs.Promise.{Side, Valid}
 use Rattle.basics.proofs.Tests.{clash, fails, same-test, and-left, and-right, and-both, all-below, below-all, either}
 use Rattle.quorum.proofs.Promise.{promise}

@@ -1,7 +1,7 @@
-use Rattle.validity.specs.Pairs.{filledSide}
+use Rattle.pairs.specs.Pairs.{filledSide}
 use borrow.Author.Needs.{needs}
-use Rattle.validity.proofs.filled_side.Statement.{statement}
-use Rattle.validity.proofs.filled_side.Tie as tie
+use Rattle.pairs.proofs.filled_side.Statement.{statement}
+use Rattle.pairs.proofs.filled_side.Tie as tie
 
 add-load-set : tie.Need-add-load-set
 add-load-set c = search needs

@@ -1,8 +1,8 @@
 use native.Mathlib.Omega.{arith}
-use Rattle.validity.proofs.Pairs.{four-lanes}
+use Rattle.pairs.proofs.Pairs.{four-lanes}
 use borrow.Author.Needs.{needs}
-use Rattle.validity.proofs.four_within.Statement.{statement}
-use Rattle.validity.proofs.four_within.Tie as tie
+use Rattle.pairs.proofs.four_within.Statement.{statement}
+use Rattle.pairs.proofs.four_within.Tie as tie
 
 load-four-requires : tie.Need-load-four-requires
 load-four-requires c κs = search needs

@@ -1,7 +1,7 @@
 use native.Mathlib.Omega.{arith}
 use borrow.Author.Needs.{needs}
-use Rattle.validity.proofs.load_four.Statement.{statement}
-use Rattle.validity.proofs.load_four.Tie as tie
+use Rattle.pairs.proofs.load_four.Statement.{statement}
+use Rattle.pairs.proofs.load_four.Tie as tie
 
 load-set-requires : tie.Need-load-set-requires
 load-set-requires c κs = search needs

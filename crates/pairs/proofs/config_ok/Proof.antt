@@ -1,13 +1,13 @@
 use mathlib.Core.Path.{_≡_, sym, _∙_}
 use mathlib.Core.Bool.{true, _&&_}
 use borrow.Author.Tests.{not-true, not-false}
-use Rattle.validity.specs.Pairs.{pairsOk}
+use Rattle.pairs.specs.Pairs.{pairsOk}
 use Rattle.basics.proofs.Tests.{clash}
-use Rattle.validity.proofs.Pairs.{invalid}
-use Rattle.validity.proofs.Pairs.{inside, valid-is-paired, valid-is-inside, paired-is-valid}
+use Rattle.pairs.proofs.Pairs.{invalid}
+use Rattle.pairs.proofs.Pairs.{inside, valid-is-paired, valid-is-inside, paired-is-valid}
 use borrow.Author.Needs.{needs}
-use Rattle.validity.proofs.config_ok.Statement.{statement}
-use Rattle.validity.proofs.config_ok.Tie as tie
+use Rattle.pairs.proofs.config_ok.Statement.{statement}
+use Rattle.pairs.proofs.config_ok.Tie as tie
 
 -- past the first test; and the four parts of the second
 paired : (c : tie.Else1) → pairsOk (c .before .before .before .args .config .now) ≡ true
