@@ -63,7 +63,7 @@ copyGenerationAt = 16
 abbrev pub copyConfigAt : ℕ
 copyConfigAt = 24
 
--- the copy k of all, in their order
+-- where the copy k of all starts, in their order
 abbrev pub copyAt : ℕ → ℕ
 copyAt k = copiesAt + copySize * k
 

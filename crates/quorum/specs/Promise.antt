@@ -1,6 +1,6 @@
--- What the crate promises of its definitions of sets and configurations: "the table layer relies on their promises alone". The crates above
--- rely on this record and on the contracts of `sets` and `validity`. These two, the code of this layer, open the definitions, and so do `form`,
--- `in_form` and `forming`, which test and write configurations, and the examples that are computed (`cases`, `runs`).
+-- What the crate promises of its definitions of sets and configurations: "the table layer relies on their promises alone". The crates above rely on this
+-- record and on the contracts of `sets`, `pairs` and `validity`. These three, the code of this layer, open the definitions, and so do `form`, `in_form` and
+-- `forming`, which test and write configurations, and the examples that are computed (`cases`, `runs`).
 use mathlib.Core.Path.{_≡_}
 use mathlib.Core.Bool.{Bool, true, false, not, _&&_, _||_}
 use mathlib.Core.List.{List}
