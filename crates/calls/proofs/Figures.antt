@@ -1,19 +1,18 @@
--- The figures of poll and reach, from what the code's searches found.
+-- The figures of poll and reach, from what the walk has found.
 use mathlib.Core.Path.{_≡_, ap, _∙_}
-use mathlib.Core.Bool.{cond}
+use mathlib.Core.Bool.{Bool, true, false, cond}
 use mathlib.Core.List.{List}
 use Prim.Native.Nat.{ℕ}
-use Rattle.quorum.specs.Configurations.{placeFigure, holdsRead, holdsWrite}
+use Rattle.quorum.specs.Configurations.{placeFigure, holdsWrite}
 use Rattle.quorum.specs.declared.Place.{Place}
-use Rattle.layout.specs.Layout.{address}
-use Rattle.layout.specs.Fields.{stations, roundOf, copyFrom}
-use Rattle.layout.specs.Newest.{newest, byGeneration, heardPlace, hears}
+use Rattle.layout.specs.Fields.{stations, roundOf}
+use Rattle.layout.specs.Newest.{heardPlace, hears}
 use Rattle.layout.specs.Rounds.{withPoll}
 use Rattle.layout.specs.View.{view, onBus}
-use Rattle.table.specs.Search.{asOption, copiesOf, generationsOf}
-use Rattle.table.specs.declared.newest.Station.{Station}
-use Rattle.table.specs.declared.newest.Station.the-variants.{At, Nobody}
-use Rattle.rounds.proofs.Hearing.{nobody-unheard}
+use Rattle.table.specs.Search.{copiesOf}
+use Rattle.table.specs.declared.newest.Newest.{Newest}
+use Rattle.rounds.specs.Heard.{HasFound}
+use Rattle.rounds.proofs.Hearing.{config-is}
 use Rattle.rules.specs.Calls.{poll}
 use Rattle.rules.specs.Figures.{oneFigure, reachFigure, figuresOf}
 use Rattle.rules.specs.Reply.{answer}
@@ -33,19 +32,17 @@ poll-figure t s e f g h q =
     let own = rw (e, f, g) at h in ap figureReply (q ∙ ap placeFigure own)
 
 -- ---- reach: what polling the stations on the bus finds
-module _ (t : List ℕ) (i : ℕ) (found : Station) {n on : ℕ} (a : n ≡ stations t) (on-bus : on ≡ onBus (view t))
-    (e : asOption found ≡ newest (generationsOf t n i) on n) where
-  -- the search by what the table says
-  bus-searched : asOption found ≡ newest (generationsOf t (stations t) i) (onBus (view t)) (stations t)
-  bus-searched = rw (on-bus, a) at e
-
-  -- nobody is found: nothing is heard
-  pub nobody-reached : found ≡ Nobody → 0 ≡ reachFigure (view t) i
+module _ (t : List ℕ) (i : ℕ) {n on : ℕ} (a : n ≡ stations t) (on-bus : on ≡ onBus (view t)) where
+  -- not heard
+  pub not-reached : hears (copiesOf t n i) on n ≡ false → 0 ≡ reachFigure (view t) i
   unfolding view
-  nobody-reached p = rw (nobody-unheard (stations t) (onBus (view t)) (generationsOf t (stations t) i) bus-searched t i p)
+  not-reached e = let h = rw (a, on-bus) at e in rw h
 
-  -- station g is found, whose copy starts at d
-  pub reached : {g d : ℕ} {config : List ℕ} → found ≡ At g → d ≡ address n i g → config ≡ copyFrom t d .config
-      → reachFigure (view t) i ≡ cond (holdsRead config on) (cond (holdsWrite config on) 3 1) 0
-  unfolding view byGeneration hears
-  reached p d c = rw (← bus-searched, p, c, d, a, on-bus)
+  -- heard, and judged by the configuration found
+  pub reached : {newest : Newest} {config : List ℕ} {writes : Bool} → hears (copiesOf t n i) on n ≡ true → HasFound t n i on newest
+      → config ≡ copiesOf t n i (newest .«by_generation») .config → writes ≡ holdsWrite config on → cond writes 3 1 ≡ reachFigure (view t) i
+  unfolding view
+  reached e f c w =
+      let h = rw (a, on-bus) at e in
+      let q = rw (a, on-bus) at (w ∙ ap (λ x. holdsWrite x on) (config-is t n i on f c)) in
+      rw (h, q)

@@ -8,7 +8,8 @@ ghost use Rattle.layout.specs.View.{view};
 ghost use Rattle.rules.specs.Calls.{poll, put, commit, link, reach, diagnose};
 ghost use Rattle.rules.specs.Figures.{reachFigure};
 ghost use Rattle.rules.specs.Reply.{reply, after};
-use closing::look_ahead;
+use closing::commit_reply;
+use closing::diagnose_reply;
 use numbers::DATA;
 use numbers::DONE;
 use numbers::OFF;
@@ -19,20 +20,20 @@ use numbers::plain;
 use numbers::poll_number;
 use numbers::put_number;
 use rounds::heard::heard_place;
+use rounds::heard::is_heard;
 use rounds::round::Round;
 use rules::Reply;
 use table::copy::Generation;
 use table::copy::Version;
-use table::copy::address;
-use table::copy::config_at;
 use table::head::off_set;
 use table::head::on_bus;
 use table::head::set_off;
 use table::head::set_polled;
 use table::head::set_puts;
 use table::head::stations;
-use table::newest::Station;
-use table::newest::search;
+use table::newest::Found;
+use table::newest::config_found;
+use table::newest::walk;
 use writes::finish;
 
 pub fn poll_on(t: &mut [u8], station: u64) -> Reply
@@ -78,7 +79,7 @@ pub fn commit_on(t: &mut [u8]) -> Reply
     if number != DONE {
         return plain(number);
     }
-    let outcome = look_ahead(t).outcome;
+    let outcome = commit_reply(t);
     if outcome.number != DONE {
         return outcome;
     }
@@ -125,15 +126,14 @@ fn reach_figure(t: &[u8], i: usize) -> u64
 {
     let n = stations(t);
     let on = on_bus(t);
-    let newest = search(t, n, i, on).by_generation;
-    let Station::At(g) = newest else {
+    let found = walk(t, n, i, on);
+    let Found::Copies(newest) = found else {
         return 0;
     };
-    let config = config_at(t, address(n, i, g));
-    if !sets::holds_read_set(config, on) {
+    if !is_heard(t, n, i, on, newest) {
         return 0;
     }
-    if !sets::holds_write_set(config, on) {
+    if !sets::holds_write_set(config_found(t, n, i, newest), on) {
         return 1;
     }
     3
@@ -164,12 +164,5 @@ pub fn diagnose_on(t: &[u8]) -> Reply
     if number != DONE {
         return plain(number);
     }
-    let seen = look_ahead(t);
-    let outcome = seen.outcome;
-    Reply {
-        number: DONE,
-        first: outcome.number,
-        second: seen.station,
-        third: seen.place,
-    }
+    diagnose_reply(t)
 }

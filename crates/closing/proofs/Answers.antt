@@ -1,29 +1,26 @@
 -- Commit's reply in a heard round: by the round's kind, what the code's tests come to, and the figures.
-use mathlib.Core.Path.{_≡_, refl, sym, _∙_}
+use mathlib.Core.Path.{_≡_, refl, sym, ap, _∙_}
 use mathlib.Core.Bool.{Bool, true, false}
 use mathlib.Core.List.{List}
 use Prim.Native.Nat.{ℕ, _-_, _^_, _<_}
 use native.Mathlib.Omega.{arith}
-use borrow.Author.Tests.{eqb-false}
-use Rattle.basics.proofs.Tests.{either}
+use borrow.Author.Tests.{eqb-false, ne-eqb}
+use Rattle.basics.proofs.Tests.{either, fails}
 use Rattle.quorum.specs.Configurations.{holdsWrite}
 use Rattle.layout.specs.Fields.{Kind, copyFrom}
 use Rattle.layout.specs.Soundness.{sound}
 use Rattle.layout.specs.View.{view, foundByVersion, foundByGeneration, heard}
-use Rattle.rules.specs.Calls.{commit, abandon}
+use Rattle.rules.specs.Calls.{commit, abandon, diagnose}
 use Rattle.rules.specs.Rules.{first, tests, last, isIdle, spent, written, commitTests}
-use Rattle.rules.specs.Figures.{Figures, figuresOf, closing}
+use Rattle.rules.specs.Figures.{figuresOf, closing, diagnosis}
 use Rattle.rules.specs.Reply.{answer, replyOf, reply}
 use Rattle.rules.proofs.Judged.{a-round, sound-number}
 use Rattle.rules.specs.declared.Reply.{Reply}
-use Rattle.closing.specs.Closing.{HeardAt, closingReply}
+use Rattle.closing.specs.Closing.{OpenRound, HeardAt, ValueAt, OfKind, closingNumber, closingReply}
 
 -- ---- the reply, by the tests
 abbrev pub refusal : ℕ → Reply
 refusal k = record { number = k; first = 0; second = 0; third = 0 }
-
-abbrev pub done : Figures → Reply
-done f = record { number = 0; first = f .first; second = f .second; third = f .third }
 
 -- on a sound table, with no round, in a round that is not heard, and in one that is
 module _ (t : List ℕ) (e : sound t ≡ true) where
@@ -44,50 +41,61 @@ module _ (t : List ℕ) (e : sound t ≡ true) where
   unfolding tests first
   heard-reply i h = sym (by-tests ∙ rw (i, h))
 
-pub closes : (t : List ℕ) {b g : ℕ} → HeardAt t b g → closingReply t ≡ reply t commit
+pub closes : (t : List ℕ) {g : ℕ} → HeardAt t g → closingReply t ≡ reply t commit
 closes t f = heard-reply t (f .isOpen .0) (a-round _ .1 (f .isOpen .1)) (f .isHeard)
 
+-- ---- diagnose: it is done, and shows commit's number
+pub diagnosed : (t : List ℕ) → OpenRound t → {k y z : ℕ} {outcome : Reply} → outcome ≡ reply t commit → k ≡ outcome .number
+    → y ≡ diagnosis (view t) .second → z ≡ diagnosis (view t) .third → record { number = 0; first = k; second = y; third = z } ≡ reply t diagnose
+unfolding tests first figuresOf replyOf view
+diagnosed t o e k y z =
+    let shows = k ∙ ap (λ r. r .number) e in
+    let is-open = a-round _ .1 (o .1) in
+    (λ j. record { number = 0; first = shows j; second = y j; third = z j }) ∙ sym (rw (sound-number (view t) diagnose refl (o .0), is-open))
+
+-- a number that is not 0 is the whole reply
+pub refused-reply : (t : List ℕ) {k : ℕ} → k ≡ closingNumber t → (k ≡ 0 → ⊥) → refusal k ≡ closingReply t
+refused-reply t {k} e h = rw (← e, ne-eqb k 0 h)
+
 -- in a heard round, by its kind
-module _ (t : List ℕ) {k : Kind} (e : view t .round .kind ≡ k) where
-  by-kind : closingReply t ≡ answer (first (commitTests (view t) k)) (closing (view t) k)
-  unfolding figuresOf
-  by-kind = rw e
+module _ (t : List ℕ) {k : Kind} (e : OfKind t k) where
+  number-by-kind : closingNumber t ≡ first (commitTests (view t) k)
+  number-by-kind = rw e
 
-  pub spent-reply : spent (view t) k ≡ true → refusal 10 ≡ closingReply t
+  pub spent-number : spent (view t) k ≡ true → 10 ≡ closingNumber t
   unfolding first
-  spent-reply s = sym (by-kind ∙ rw s)
+  spent-number s = sym (number-by-kind ∙ rw s)
 
-  pub short-reply : spent (view t) k ≡ false → written (view t) k ≡ false → refusal 11 ≡ closingReply t
+  pub short-number : spent (view t) k ≡ false → written (view t) k ≡ false → 11 ≡ closingNumber t
   unfolding first
-  short-reply s w = sym (by-kind ∙ rw (s, w))
+  short-number s w = sym (number-by-kind ∙ rw (s, w))
 
-  pub done-reply : spent (view t) k ≡ false → written (view t) k ≡ true → done (closing (view t) k) ≡ closingReply t
+  pub done-number : spent (view t) k ≡ false → written (view t) k ≡ true → 0 ≡ closingNumber t
   unfolding first
-  done-reply s w = sym (by-kind ∙ rw (s, w))
+  done-number s w = sym (number-by-kind ∙ rw (s, w))
 
--- a reply that is done, by its figures
-pub with-figures : {a b c : ℕ} {f : Figures} → a ≡ f .first → b ≡ f .second → c ≡ f .third
-    → done (record { first = a; second = b; third = c }) ≡ done f
-with-figures p q r = λ i. record { number = 0; first = p i; second = q i; third = r i }
+  -- a number of 0 says that the counter is not spent, and then the figures are those of the kind
+  module _ (z : closingNumber t ≡ 0) where
+    pub not-spent : spent (view t) k ≡ false
+    unfolding first
+    not-spent = fails _ (λ s. let y : _≡_ {A = ℕ} 10 0 = spent-number s ∙ z in absurd (omega arith))
+
+    pub closes-with : {a b c : ℕ} → a ≡ closing (view t) k .first → b ≡ closing (view t) k .second → c ≡ closing (view t) k .third
+        → record { number = 0; first = a; second = b; third = c } ≡ closingReply t
+    unfolding figuresOf
+    closes-with p q r = (λ i. record { number = 0; first = p i; second = q i; third = r i }) ∙ rw (z, e)
 
 -- ---- what is read from the newest copies is what the round has found
-module _ {t : List ℕ} {b g : ℕ} (h : HeardAt t b g) where
-  pub version-is : {x : ℕ} → x ≡ copyFrom t b .version → x ≡ foundByVersion (view t) .version
-  version-is e = rw (h .version) e
+pub value-is : (t : List ℕ) (b : ℕ) {x : ℕ} → ValueAt t b → x ≡ copyFrom t b .value → x ≡ foundByVersion (view t) .value
+value-is t b h e = rw (h .0) e
 
-  pub value-is : {x : ℕ} → x ≡ copyFrom t b .value → x ≡ foundByVersion (view t) .value
-  value-is e = rw (h .version) e
-
-  pub generation-is : {x : ℕ} → x ≡ copyFrom t g .generation → x ≡ foundByGeneration (view t) .generation
-  generation-is e = rw (h .generation) e
-
-  pub config-is : {c : List ℕ} → c ≡ copyFrom t g .config → c ≡ foundByGeneration (view t) .config
-  config-is e = rw (h .generation) e
+pub config-is : {t : List ℕ} {g : ℕ} {c : List ℕ} → HeardAt t g → c ≡ copyFrom t g .config → c ≡ foundByGeneration (view t) .config
+config-is h e = rw (h .generation) e
 
 -- ---- the code's tests
 -- a counter that is not the last can be raised
-pub not-last : (x : ℕ) {r : Bool} → x < 2 ^ 64 → r ≡ last x → r ≡ false → x < 2 ^ 64 - 1
-not-last x l e f = let h : x ≡ 2 ^ 64 - 1 → ⊥ = eqb-false x (2 ^ 64 - 1) (sym e ∙ f) in omega arith
+pub not-last : (x : ℕ) {y : ℕ} → x < 2 ^ 64 → x ≡ y → last y ≡ false → x < 2 ^ 64 - 1
+not-last x l e f = let h : x ≡ 2 ^ 64 - 1 → ⊥ = eqb-false x (2 ^ 64 - 1) (ap (λ z. last z) e ∙ f) in omega arith
 
 -- whether puts hold a write set, by the configuration and the puts that were read
 pub held : {r : Bool} {c c′ : List ℕ} {d d′ : ℕ} → r ≡ holdsWrite c d → c ≡ c′ → d ≡ d′ → holdsWrite c′ d′ ≡ r

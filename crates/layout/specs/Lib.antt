@@ -2,6 +2,7 @@ pub mod Layout
 pub mod Fields
 pub mod Rounds
 pub mod Newest
+pub mod Walk
 pub mod Soundness
 pub mod View
 pub mod TableFacts

@@ -5,18 +5,9 @@ use mathlib.Core.List.{List}
 use Prim.Native.Nat.{ℕ, zero, suc, _≤_, _<_}
 use lib.Dec.{ltb, eqb}
 use borrow.Author.Tests.{lt-ltb, le-ltb}
-use Rattle.layout.specs.Layout.{address}
-use Rattle.layout.specs.Fields.{none, change, kindOf, stations, roundOf, copyFrom}
-use Rattle.layout.specs.Newest.{newest, noCopy, byVersion, byGeneration, hears}
-use Rattle.layout.specs.Soundness.{sound}
-use Rattle.layout.specs.View.{view, foundByVersion, foundByGeneration, heard}
-use Rattle.table.specs.Search.{asOption, InTable, copiesOf, versionsOf, generationsOf}
-use Rattle.table.specs.declared.newest.Station.{Station}
-use Rattle.table.specs.declared.newest.Station.the-variants.{At, Nobody}
-use Rattle.layout.proofs.Soundness.{sound-facts}
+use Rattle.layout.specs.Fields.{none, change, kindOf}
 use Rattle.quorum.specs.Sets.{member}
 use Rattle.quorum.specs.Configurations.{valid}
-use Rattle.rounds.proofs.Hearing.{items-in-table}
 use Rattle.rules.specs.Rules.{idle, last}
 
 -- ---- what the code's tests come to
@@ -76,35 +67,3 @@ either-put a b = go (eqb a 0) (eqb b 0)
     go : (x y : Bool) → (not x || not y) ≡ not (x && y)
     go true y = refl
     go false y = refl
-
--- ---- whether the open round of a sound table is heard
--- the need of `hear`, by the stations and the item that were read
-pub own-copies : (t : List ℕ) → sound t ≡ true → {n i : ℕ} → n ≡ stations t → i ≡ roundOf t .item → InTable t n i
-unfolding view
-own-copies t e a b = rw (a, b) (items-in-table t e (roundOf t .item) (sound-facts t e .state .item))
-
--- the answer of `is_heard` is the round's
-pub own-heard : (t : List ℕ) {n i p : ℕ} {r : Bool} → n ≡ stations t → i ≡ roundOf t .item → p ≡ roundOf t .polled
-    → r ≡ hears (copiesOf t n i) p n → r ≡ heard (view t)
-unfolding view
-own-heard t a b c h = rw (a, b, c) at h
-
--- ---- the copies that it has found, by one of the two searches over its polled copies, and the place of the copy
-module _ (t : List ℕ) {n i p : ℕ} (a : n ≡ stations t) (b : i ≡ roundOf t .item) (c : p ≡ roundOf t .polled) (found : Station) where
-  pub nobody-by-version : asOption found ≡ newest (versionsOf t n i) p n → found ≡ Nobody → foundByVersion (view t) ≡ noCopy
-  unfolding view byVersion
-  nobody-by-version e f = let own = rw (a, b, c) at e in rw (← own, f)
-
-  pub nobody-by-generation : asOption found ≡ newest (generationsOf t n i) p n → found ≡ Nobody → foundByGeneration (view t) ≡ noCopy
-  unfolding view byGeneration
-  nobody-by-generation e f = let own = rw (a, b, c) at e in rw (← own, f)
-
-  pub found-by-version : {s d : ℕ} → asOption found ≡ newest (versionsOf t n i) p n → found ≡ At s → d ≡ address n i s
-      → copyFrom t d ≡ foundByVersion (view t)
-  unfolding view byVersion
-  found-by-version e f q = let own = rw (a, b, c) at e in rw (← own, f, q, a, b)
-
-  pub found-by-generation : {s d : ℕ} → asOption found ≡ newest (generationsOf t n i) p n → found ≡ At s → d ≡ address n i s
-      → copyFrom t d ≡ foundByGeneration (view t)
-  unfolding view byGeneration
-  found-by-generation e f q = let own = rw (a, b, c) at e in rw (← own, f, q, a, b)

@@ -5,30 +5,27 @@ ghost use lib.Dec.{eqb};
 ghost use lib.ListN.{length, drop};
 ghost use Prim.Native.Nat.{_≤_};
 ghost use Rattle.layout.specs.Layout.{headSize};
-ghost use Rattle.layout.specs.Fields.{none, write, change};
+ghost use Rattle.layout.specs.Fields.{none};
 ghost use Rattle.layout.specs.Soundness.{sound};
 ghost use Rattle.layout.specs.View.{view};
 ghost use Rattle.rules.specs.Calls.{lay, openRead, openChange, poll, put, abandon, link, reach};
-ghost use Rattle.rules.specs.Rules.{first, noSort, readingOver, spent, tests};
+ghost use Rattle.rounds.specs.Heard.{OwnFound};
+ghost use Rattle.rules.specs.Rules.{first, noSort, readingOver, tests};
 use layout::NO_ROUND;
 use layout::READ;
 use layout::WRITE;
-use rounds::heard::is_heard;
+use rounds::found::round_found;
+use rounds::found::round_is_heard;
 use rules::Reply;
-use table::copy::address;
-use table::copy::generation_at;
-use table::copy::version_at;
 use table::head::config_puts;
 use table::head::data_puts;
-use table::head::item;
 use table::head::items;
 use table::head::kind;
 use table::head::lay_length;
 use table::head::off_set;
-use table::head::polled;
 use table::head::stations;
-use table::newest::Station;
-use table::newest::search;
+use table::newest::Found;
+use table::newest::Newest;
 
 pub const DONE: u64 = 0;
 
@@ -155,19 +152,21 @@ pub fn put_number(t: &[u8], s: u64, sort: u64) -> u64
     if sets::is_member(off_set(t), s as usize) {
         return OFF_THE_BUS;
     }
-    if !is_heard(t, stations(t), item(t), polled(t)) {
+    let found = round_found(t);
+    let Found::Copies(newest) = found else {
+        return UNHEARD;
+    };
+    if !round_is_heard(t, newest) {
         return UNHEARD;
     }
-    put_kind_number(t, sort)
+    put_kind_number(t, sort, newest)
 }
 
-// The last tests of a put of a listed sort, by the round's kind.
-fn put_kind_number(t: &[u8], sort: u64) -> u64
-    requires { ⌜ (sound (now t) ≡ true) × (view (now t) .round .kind ≡ none → ⊥) × (noSort sort ≡ false) ⌝ }
+// The last tests of a put of a listed sort, by the round's kind and what the round has found.
+fn put_kind_number(t: &[u8], sort: u64, newest: Newest) -> u64
+    requires { ⌜ (sound (now t) ≡ true) × (view (now t) .round .kind ≡ none → ⊥) × (noSort sort ≡ false) × OwnFound (now t) newest ⌝ }
     ensures { λ r. ⌜ r ≡ first (drop 4 (tests (view (now (t .entry))) (put 0 sort))) ⌝ }
 {
-    // Lent on, so that the compiler hands address and length over in registers.
-    let t = &*t;
     let k = kind(t);
     if k == READ {
         return WRONG_PUT;
@@ -176,45 +175,17 @@ fn put_kind_number(t: &[u8], sort: u64) -> u64
         if sort == CONFIGURATION {
             return WRONG_PUT;
         }
-        if version_spent(t) {
+        if newest.version.is_last() {
             return SPENT;
         }
         return DONE;
     }
     if sort == CONFIGURATION {
-        if generation_spent(t) {
+        if newest.generation.is_last() {
             return SPENT;
         }
     }
     DONE
-}
-
-// Whether the version that the round found is the last.
-fn version_spent(t: &[u8]) -> bool
-    requires { ⌜ sound (now t) ≡ true ⌝ }
-    ensures { λ r. ⌜ r ≡ spent (view (now (t .entry))) write ⌝ }
-{
-    let n = stations(t);
-    let i = item(t);
-    let newest = search(t, n, i, polled(t)).by_version;
-    let Station::At(b) = newest else {
-        return false;
-    };
-    version_at(t, address(n, i, b)).is_last()
-}
-
-// Whether the generation that the round found is the last.
-fn generation_spent(t: &[u8]) -> bool
-    requires { ⌜ sound (now t) ≡ true ⌝ }
-    ensures { λ r. ⌜ r ≡ spent (view (now (t .entry))) change ⌝ }
-{
-    let n = stations(t);
-    let i = item(t);
-    let newest = search(t, n, i, polled(t)).by_generation;
-    let Station::At(g) = newest else {
-        return false;
-    };
-    generation_at(t, address(n, i, g)).is_last()
 }
 
 // Of abandon and of diagnose, and commit's first test: whether a round is open.

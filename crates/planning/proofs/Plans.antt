@@ -8,8 +8,7 @@ use Rattle.basics.proofs.Tests.{either}
 use Rattle.quorum.specs.Sets.{within}
 use Rattle.quorum.specs.Configurations.{placeFigure, isPlace, holdsWrite}
 use Rattle.quorum.proofs.Promise.{promise}
-use Rattle.layout.specs.Layout.{address}
-use Rattle.layout.specs.Fields.{stations, items, copyFrom}
+use Rattle.layout.specs.Fields.{stations, items}
 use Rattle.layout.specs.Soundness.{sound}
 use Rattle.layout.specs.View.{State, view, onBus}
 use Rattle.layout.proofs.Soundness.{is-sound}
@@ -22,6 +21,7 @@ use Rattle.rules.specs.Reply.{answer}
 use Rattle.rules.specs.declared.Reply.{Reply}
 use Rattle.rules.proofs.Steps.{on-bus}
 use Rattle.table.specs.Search.{copiesOf}
+use Rattle.table.specs.declared.newest.Newest.{Newest}
 use Rattle.planning.specs.Planning.{Says}
 use Rattle.planning.specs.declared.FirstHeard.the-variants.{After, Never}
 
@@ -51,15 +51,15 @@ module _ (t : List ℕ) (s : sound t ≡ true) (i : ℕ) (l : i < items t) {n on
   unfolding view
   unheard e = let z = rw (a, b) at e in numbered false (sym (promise .figure-none _ .0 z))
 
-  -- ---- heard: the copy at station g starts at d
-  module _ {polls g d puts : ℕ} {config : List ℕ} (e : Says t n i on (After polls g)) (q : d ≡ address n i g) (c : config ≡ copyFrom t d .config)
-      (p : puts ≡ placeFigure (firstStart (holdsWrite config) (rising on))) where
+  -- ---- heard, and the puts judged by the configuration found
+  module _ (newest : Newest) {polls puts : ℕ} {config : List ℕ} (e : Says t n i on (After polls newest))
+      (c : config ≡ copiesOf t n i (newest .«by_generation») .config) (p : puts ≡ placeFigure (firstStart (holdsWrite config) (rising on))) where
     pub heard : 0 ≡ first (tests (view t) (plan i))
     unfolding view
     heard = let z = rw (a, b) at (e .1) in numbered true (sym (promise .figure-place _ .0 (rw z at (e .0))))
 
     found : config ≡ foundByStart (copiesOf t n i) on n .config
-    found = c ∙ ap (λ x. x .config) (ap (copyFrom t) q ∙ sym (e .3))
+    found = c ∙ ap (λ x. x .config) (sym (e .3))
 
     puts-found : puts ≡ placeFigure (putsNeeded (copiesOf t n i) on n)
     unfolding putsNeeded

@@ -17,7 +17,7 @@ use Rattle.plan.specs.Starts.{joined}
 use Rattle.quorum.specs.Configurations.{placeFigure}
 use Rattle.quorum.specs.Promise.{_⊆_}
 use Rattle.quorum.proofs.Promise.{promise}
-use Rattle.table.proofs.Search.{lowest-in, left-less, others, taken-out}
+use Rattle.layout.proofs.Along.{lowest-in, left-less, others, taken-out}
 use Rattle.plan.specs.Starts.{rising, start, firstStart}
 use Rattle.plan.proofs.Starts.{passes-first, none-passes}
 

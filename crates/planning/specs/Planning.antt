@@ -8,9 +8,10 @@ use Rattle.table.specs.Search.{copiesOf}
 use Rattle.planning.specs.declared.FirstHeard.{FirstHeard}
 use Rattle.planning.specs.declared.FirstHeard.the-variants.{After, Never}
 
--- what the code's enum says of an item's copies and the stations on the bus: after so many polls a round is first heard, and the copy at station g
--- gives the configuration found; or no start is heard
+-- what the code's enum says of an item's copies and the stations on the bus: after so many polls a round is first heard, and the copy at the newest's
+-- station gives the configuration found; or no start is heard
 abbrev pub Says : List ℕ → ℕ → ℕ → ℕ → FirstHeard → Type 0
-Says t n item on (After polls g) =
-    (1 ≤ polls) × (polls ≡ placeFigure (pollsNeeded (copiesOf t n item) on n)) × (g < n) × (foundByStart (copiesOf t n item) on n ≡ copiesOf t n item g)
+Says t n item on (After polls newest) =
+    (1 ≤ polls) × (polls ≡ placeFigure (pollsNeeded (copiesOf t n item) on n)) × (newest .«by_generation» < n)
+    × (foundByStart (copiesOf t n item) on n ≡ copiesOf t n item (newest .«by_generation»))
 Says t n item on Never = placeFigure (pollsNeeded (copiesOf t n item) on n) ≡ 0

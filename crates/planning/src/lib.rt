@@ -1,4 +1,4 @@
-// How many polls and puts a round will take: a walk over the stations on the bus for each, the lowest first.
+// How many polls and puts a round will take: the stations on the bus, taken the lowest first, until enough are polled, and again until enough are written.
 ghost use mathlib.Core.Path.{_≡_};
 ghost use mathlib.Core.Bool.{true};
 ghost use Rattle.quorum.specs.Sets.{within};
@@ -13,16 +13,17 @@ use numbers::DONE;
 use numbers::OUT_OF_HEARING;
 use numbers::item_number;
 use numbers::plain;
+use rounds::heard::is_heard;
 use rules::Reply;
-use table::copy::address;
-use table::copy::config_at;
 use table::head::on_bus;
 use table::head::stations;
-use table::newest::newer_by_generation;
+use table::newest::Found;
+use table::newest::Newest;
+use table::newest::config_found;
 
-// After how many polls a round is first heard, and the station whose copy then gives the configuration found.
+// After how many polls a round is first heard, and the newest copies then.
 pub enum FirstHeard {
-    After(u64, usize),
+    After(u64, Newest),
     Never,
 }
 
@@ -33,16 +34,17 @@ fn first_heard(t: &[u8], n: usize, item: usize, on: u16) -> FirstHeard
 {
     let mut polls = 0u64;
     let mut polled = 0u16;
-    let mut g = sets::lowest(on);
+    let mut found = Found::Nobody;
     let mut rest = on;
     while rest != 0 {
         let s = sets::lowest(rest);
         rest = sets::without_lowest(rest);
         polls = polls + 1;
         polled = sets::with_station(polled, s);
-        g = newer_by_generation(t, n, item, g, s);
-        if sets::holds_read_set(config_at(t, address(n, item, g)), polled) {
-            return FirstHeard::After(polls, g);
+        let newest = found.onward(t, n, item, s);
+        found = Found::Copies(newest);
+        if is_heard(t, n, item, polled, newest) {
+            return FirstHeard::After(polls, newest);
         }
     }
     FirstHeard::Never
@@ -79,13 +81,13 @@ pub fn plan_on(t: &[u8], i: u64) -> Reply
     let n = stations(t);
     let item = i as usize;
     let on = on_bus(t);
-    let FirstHeard::After(polls, g) = first_heard(t, n, item, on) else {
+    let FirstHeard::After(polls, newest) = first_heard(t, n, item, on) else {
         return plain(OUT_OF_HEARING);
     };
     Reply {
         number: DONE,
         first: polls,
-        second: puts_needed(config_at(t, address(n, item, g)), on),
+        second: puts_needed(config_found(t, n, item, newest), on),
         third: 0,
     }
 }

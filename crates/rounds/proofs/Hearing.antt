@@ -1,59 +1,39 @@
--- What a round has found: the needs of `find`, and that the items of a sound table lie in it.
-use mathlib.Core.Path.{_≡_, sym}
-use mathlib.Core.Bool.{Bool, true, false}
-use mathlib.Core.List.{List, []}
-use mathlib.Core.Option.{none}
-use Prim.Native.Nat.{ℕ, _<_}
+-- Whether a round is heard, by the configuration that it has found, and that the items of a sound table lie in it.
+use mathlib.Core.Path.{_≡_, refl, sym, ap, _∙_}
+use mathlib.Core.Bool.{Bool, true}
+use mathlib.Core.List.{List}
+use mathlib.Core.Option.{Option}
+use Prim.Native.Nat.{ℕ, _+_, _≤_, _<_}
 use native.Mathlib.Omega.{arith}
-use Rattle.basics.proofs.Tests.{clash, fails}
+use lib.ListN.{length}
+use Rattle.layout.specs.Layout.{copySize, address}
+use Rattle.layout.specs.Fields.{stations, items, roundOf, copyFrom}
+use Rattle.layout.specs.Soundness.{sound}
 use Rattle.quorum.specs.Configurations.{firstRead, holdsRead}
 use Rattle.quorum.specs.declared.Place.{Place}
-use Rattle.quorum.specs.declared.Place.the-variants.{Nowhere}
-use Rattle.quorum.proofs.Promise.{promise}
-use Rattle.layout.specs.Layout.{address}
-use Rattle.layout.specs.Fields.{stations, items, copyFrom}
-use Rattle.layout.specs.Soundness.{sound}
-use Rattle.layout.specs.Newest.{newest, copyOr, byGeneration, heardPlace, hears}
-use Rattle.layout.specs.View.{view}
-use Rattle.table.specs.Search.{asOption, InTable, copiesOf, generationsOf}
-use Rattle.table.specs.declared.newest.Station.{Station}
-use Rattle.table.specs.declared.newest.Station.the-variants.{At, Nobody}
+use Rattle.layout.specs.Newest.{byGeneration, heardPlace, hears}
+use Rattle.layout.specs.View.{view, own, readPlace, heard}
+use Rattle.layout.specs.Walk.{Walked, walk}
+use Rattle.table.specs.Search.{InTable, copiesOf}
+use Rattle.table.specs.declared.newest.Newest.{Newest}
+use Rattle.layout.proofs.OneWalk.{generation-found}
+use Rattle.table.proofs.Search.{copy-fits}
+use Rattle.rounds.specs.Heard.{HasFound, ownWalk, OwnFound}
 use Rattle.layout.proofs.Fields.{address-table}
 use Rattle.layout.proofs.Soundness.{sound-facts}
-use Rattle.layout.proofs.Newer.{Gives, is-newest, heard-finds}
-use Rattle.table.proofs.Search.{found-below, newest-below}
 
--- ---- one of the two searches, by any key: it found a station
-module _ (n set : ℕ) (key : ℕ → ℕ) {o : Station} (e : asOption o ≡ newest key set n) where
-  pub station-below : {s : ℕ} → o ≡ At s → s < n
-  station-below p = found-below (rw e (newest-below key set n)) p
+-- ---- what was tested is what was found
+module _ (t : List ℕ) (n item set : ℕ) {newest : Newest} (e : HasFound t n item set newest) {config : List ℕ}
+    (c : config ≡ copiesOf t n item (newest .«by_generation») .config) where
+  pub config-is : config ≡ byGeneration (copiesOf t n item) set n .config
+  config-is = c ∙ ap (λ x. x .config) (sym (generation-found (copiesOf t n item) set n e))
 
-  -- the copy of that station starts at a
-  pub found-copy : (t : List ℕ) (item : ℕ) {s a : ℕ} → o ≡ At s → a ≡ address n item s → copyOr (copiesOf t n item) (newest key set n) ≡ copyFrom t a
-  found-copy t item p q = rw (← e, p, q)
+  pub place-there : {place : Place} → place ≡ firstRead config set → place ≡ heardPlace (copiesOf t n item) set n
+  place-there p = p ∙ ap (λ x. firstRead x set) config-is
 
-  -- a set that hears has a station below n, and then the search finds one
-  pub nobody-unheard : (t : List ℕ) (item : ℕ) → o ≡ Nobody → hears (copiesOf t n item) set n ≡ false
-  nobody-unheard t item p =
-      fails _ (λ h. let f = heard-finds (copiesOf t n item) set n h in
-      let nobody : Gives key set n none = rw (← e, p) at (is-newest key set n) in
-      clash (f .newestVersion .inSet) (nobody (f .b) (f .newestVersion .station)))
-
--- ---- the place held, by what the search by generation found
-module _ (t : List ℕ) (n item set : ℕ) {o : Station} (w : asOption o ≡ newest (generationsOf t n item) set n) where
-  pub no-place : o ≡ Nobody → Nowhere ≡ heardPlace (copiesOf t n item) set n
-  unfolding byGeneration
-  no-place p = sym (promise .no-place _ .0 (rw (← w, p) (promise .short-read [] set (λ z. absurd (omega arith)))))
-
-  pub place-there : {g d : ℕ} {config : List ℕ} {place : Place} → o ≡ At g → d ≡ address n item g → config ≡ copyFrom t d .config
-      → place ≡ firstRead config set → place ≡ heardPlace (copiesOf t n item) set n
-  unfolding byGeneration
-  place-there p q c e = rw (e, c, found-copy n set (generationsOf t n item) w t item p q)
-
-  pub hears-there : {g d : ℕ} {config : List ℕ} {test : Bool} → o ≡ At g → d ≡ address n item g → config ≡ copyFrom t d .config → test ≡ holdsRead config set
-      → hears (copiesOf t n item) set n ≡ test
-  unfolding hears byGeneration
-  hears-there p q c e = rw (e, c, found-copy n set (generationsOf t n item) w t item p q)
+  pub hears-there : {test : Bool} → test ≡ holdsRead config set → test ≡ hears (copiesOf t n item) set n
+  unfolding hears
+  hears-there p = p ∙ ap (λ x. holdsRead x set) config-is
 
 -- ---- for callers: a sound table's copies lie in it
 pub items-in-table : (t : List ℕ) → sound t ≡ true → (item : ℕ) → item < items t → InTable t (stations t) item
@@ -65,3 +45,35 @@ items-in-table t e item l =
 -- the same by the stations that were read
 pub copies-in-table : (t : List ℕ) → sound t ≡ true → {n i : ℕ} → n ≡ stations t → i < items t → InTable t n i
 copies-in-table t e a l = rw a (items-in-table t e _ l)
+
+-- ---- the open round of a sound table, by the stations, the item and the polled set that were read
+-- the need of the walk
+pub own-copies : (t : List ℕ) → sound t ≡ true → {n i : ℕ} → n ≡ stations t → i ≡ roundOf t .item → InTable t n i
+unfolding view
+own-copies t e a b = rw (a, b) (items-in-table t e (roundOf t .item) (sound-facts t e .state .item))
+
+module _ (t : List ℕ) {n i p : ℕ} (a : n ≡ stations t) (b : i ≡ roundOf t .item) (c : p ≡ roundOf t .polled) where
+  pub own-walk : {o : Option Walked} → o ≡ walk (copiesOf t n i) p n → o ≡ ownWalk t
+  unfolding view
+  own-walk e = rw (a, b, c) at e
+
+  pub own-found : {newest : Newest} → OwnFound t newest → HasFound t n i p newest
+  unfolding view
+  own-found e = rw (a, b, c) e
+
+  pub own-hears : {r : Bool} → r ≡ hears (copiesOf t n i) p n → r ≡ heard (view t)
+  unfolding view
+  own-hears e = rw (a, b, c) at e
+
+  pub own-place : {place : Place} → place ≡ heardPlace (copiesOf t n i) p n → place ≡ readPlace (view t)
+  unfolding view
+  own-place e = rw (a, b, c) at e
+
+-- the copy at a station: it is there, and one of the round's
+module _ (t : List ℕ) (e : sound t ≡ true) {s : ℕ} (l : s < stations t) {a : ℕ} (q : a ≡ address (stations t) (roundOf t .item) s) where
+  pub own-fits : a + copySize ≤ length t
+  own-fits = copy-fits (own-copies t e refl refl) l q
+
+  pub own-copy : own (view t) s ≡ copyFrom t a
+  unfolding view
+  own-copy = ap (copyFrom t) (sym q)

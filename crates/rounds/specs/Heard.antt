@@ -1,13 +1,20 @@
--- What the code's struct `Found` holds for the copies of an item at n stations and a polled set: the station that gives the version, the one that gives
--- generation and configuration, and the first read place held (document 02, 2026-04).
+-- What a walk over polled copies has found, as the calls hand it on.
 use mathlib.Core.Path.{_≡_}
 use mathlib.Core.List.{List}
+use mathlib.Core.Option.{Option, some}
 use Prim.Native.Nat.{ℕ}
-use Rattle.layout.specs.Newest.{versionStation, generationStation, heardPlace}
-use Rattle.table.specs.Search.{asOption, copiesOf}
-use Rattle.rounds.specs.declared.heard.Found.{Found}
+use Rattle.layout.specs.View.{view, own}
+use Rattle.layout.specs.Walk.{Walked, walk}
+use Rattle.table.specs.Search.{asWalked, copiesOf}
+use Rattle.table.specs.declared.newest.Newest.{Newest}
 
-pub record IsFound (t : List ℕ) (n item polled : ℕ) (f : Found) : Type 0 where
-  pub version : asOption (f .«by_version») ≡ versionStation (copiesOf t n item) polled n
-  pub generation : asOption (f .«by_generation») ≡ generationStation (copiesOf t n item) polled n
-  pub place : f .place ≡ heardPlace (copiesOf t n item) polled n
+-- of an item's copies at n stations and a polled set
+abbrev pub HasFound : List ℕ → ℕ → ℕ → ℕ → Newest → Type 0
+HasFound t n item polled newest = walk (copiesOf t n item) polled n ≡ some (asWalked newest)
+
+-- of the open round's: the walk, and the copies found
+abbrev pub ownWalk : List ℕ → Option Walked
+ownWalk t = walk (own (view t)) (view t .round .polled) (view t .n)
+
+abbrev pub OwnFound : List ℕ → Newest → Type 0
+OwnFound t newest = ownWalk t ≡ some (asWalked newest)

@@ -1,3 +1,4 @@
-// The open round as a value, and what a round has found.
+// The open round as a value, whether a round is heard, and what the open round has found.
+pub mod found;
 pub mod heard;
 pub mod round;

@@ -1,5 +1,6 @@
 // One copy: its two counters, where it stands, its fields, and the writer that is lent the table from the copy on.
 ghost use mathlib.Core.Path.{_≡_};
+ghost use mathlib.Core.Bool.{cond};
 ghost use Prim.Native.Nat.{_+_, _≤_, _<_};
 ghost use lib.ListN.{length};
 ghost use lib.Dec.{ltb, eqb};
@@ -17,6 +18,16 @@ use layout::COPY_VALUE_AT;
 use layout::COPY_VERSION_AT;
 use quorum::CONFIG_SIZE;
 
+// The greater of two numbers.
+fn greater(a: u64, b: u64) -> u64
+    ensures { λ r. ⌜ r ≡ cond (ltb a b) b a ⌝ }
+{
+    if a < b {
+        return b;
+    }
+    a
+}
+
 // How often the value was written. It is compared only with versions.
 pub struct Version(pub u64);
 
@@ -25,6 +36,13 @@ impl Version {
         ensures { λ r. ⌜ r ≡ ltb (other .0) (self .0) ⌝ }
     {
         other.0 < self.0
+    }
+
+    // The newer of the two.
+    pub fn or_newer(self, other: Version) -> Version
+        ensures { λ r. ⌜ r .0 ≡ cond (ltb (self .0) (other .0)) (other .0) (self .0) ⌝ }
+    {
+        Version(greater(self.0, other.0))
     }
 
     // Whether there is none after it.
@@ -50,6 +68,13 @@ impl Generation {
         ensures { λ r. ⌜ r ≡ ltb (other .0) (self .0) ⌝ }
     {
         other.0 < self.0
+    }
+
+    // The newer of the two.
+    pub fn or_newer(self, other: Generation) -> Generation
+        ensures { λ r. ⌜ r .0 ≡ cond (ltb (self .0) (other .0)) (other .0) (self .0) ⌝ }
+    {
+        Generation(greater(self.0, other.0))
     }
 
     // Whether there is none after it.

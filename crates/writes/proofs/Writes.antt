@@ -1,6 +1,6 @@
 -- What commit and lay write, as lists of bytes.
 use mathlib.Core.Path.{_≡_, refl, sym, ap, _∙_}
-use mathlib.Core.Bool.{Bool, false, not, cond, _||_}
+use mathlib.Core.Bool.{Bool, true, false, cond, _||_}
 use mathlib.Core.List.{List, _∷_, _++_, append-assoc, append-nil}
 use Prim.Native.Nat.{ℕ, zero, suc, _+_, _-_, _*_, _≤_}
 use native.Mathlib.Omega.{arith}
@@ -10,7 +10,7 @@ use lib.Dec.{eqb}
 use lib.ListN.{length, replicate, length-append}
 use lib.Seq.{take-all}
 use borrow.Author.Tests.{eqb-true, not-false}
-use Rattle.quorum.specs.Sets.{member, full}
+use Rattle.quorum.specs.Sets.{member, unite, full}
 use Rattle.basics.specs.Bytes.{part, bytesOf, over}
 use Rattle.basics.proofs.Tests.{or-false-left, or-false-right}
 use Rattle.quorum.proofs.Promise.{promise}
@@ -18,39 +18,44 @@ use Rattle.quorum.specs.Configurations.{configSize}
 use Rattle.layout.specs.Layout.{headSize, offAt, copiesAt, copySize, address, tableLength}
 use Rattle.layout.specs.Fields.{Copy, Round}
 use Rattle.table.specs.Search.{InTable}
-use Rattle.layout.specs.Updates.{setOff, putData, putConfig, copyBytes, repeated, laidHead, laid, putCopies}
+use Rattle.layout.specs.Updates.{setOff, putData, putConfig, copyBytes, repeated, laidHead, laid, putCopy, putCopies}
 use Rattle.basics.proofs.Parts.{part-left, part-length, length-over, part-inside, part-whole, length-bytes, over-again, over-append, over-own}
 use Rattle.basics.proofs.Writing.{over-all}
 use Rattle.layout.proofs.Fields.{address-head, copy-length}
+use Rattle.layout.proofs.Along.{along}
 use Rattle.layout.proofs.Stored.{repeated-length}
 
 -- ---- commit
--- without puts every copy stays as it was
-empty-puts : (t : List ℕ) (n : ℕ) (r : Round) (new : Copy) (k : ℕ) → r .dataPuts ≡ 0 → r .configPuts ≡ 0 → putCopies t n r new k ≡ t
-unfolding putCopies
-empty-puts t n r new zero d c = refl
-empty-puts t n r new (suc s) d c =
-    let no-data = ap (λ set. member set s) d ∙ promise .member-empty s in
-    let no-config = ap (λ set. member set s) c ∙ promise .member-empty s in
-    rw (no-data, no-config) (empty-puts t n r new s d c)
+-- what the puts of station s do to the bytes
+abbrev pub put-station : ℕ → Round → Copy → ℕ → List ℕ → List ℕ
+put-station n r new s t = putCopy t (address n (r .item) s) (member (r .dataPuts) s) (member (r .configPuts) s) new
 
-pub no-puts : (t : List ℕ) (n : ℕ) (r : Round) (new : Copy) (k : ℕ) → (not (eqb (r .dataPuts) 0) || not (eqb (r .configPuts) 0)) ≡ false
-    → putCopies t n r new k ≡ t
-no-puts t n r new k h =
-    empty-puts t n r new k (eqb-true _ _ (not-false _ (or-false-left _ _ h)))
-    (eqb-true _ _ (not-false _ (or-false-right (not (eqb (r .dataPuts) 0)) _ h)))
+-- every put takes effect, by a walk over the stations that have one: at the others nothing is put
+pub puts-along : (t : List ℕ) (n : ℕ) (r : Round) (new : Copy) (k : ℕ)
+    → along (put-station n r new) t (unite (r .dataPuts) (r .configPuts)) k ≡ putCopies t n r new k
+unfolding putCopies along
+puts-along t n r new zero = refl
+puts-along t n r new (suc k) =
+    rw (puts-along t n r new k, promise .member-unite (r .dataPuts) (r .configPuts) k) (either-put (member (r .dataPuts) k) (member (r .configPuts) k))
+  where
+    u : List ℕ
+    u = putCopies t n r new k
+
+    either-put : (d c : Bool) → cond (d || c) (putCopy u (address n (r .item) k) d c new) u ≡ putCopy u (address n (r .item) k) d c new
+    either-put true c = refl
+    either-put false true = refl
+    either-put false false = refl
 
 -- bytes that have the copies of an item have a head
 pub head-fits : (t : List ℕ) (n item : ℕ) → InTable t n item → headSize ≤ length t
 head-fits t n item h = omega (arith, address-head n item n, h .2)
 
--- the puts of one more station take effect
-pub put-turn : (t : List ℕ) (n : ℕ) (r : Round) (new : Copy) (s : ℕ) {u₀ u₁ u₂ : List ℕ} {at : ℕ} {d c : Bool} → u₀ ≡ putCopies t n r new s
-    → at ≡ address n (r .item) s → d ≡ member (r .dataPuts) s → c ≡ member (r .configPuts) s
-    → u₁ ≡ cond d (putData u₀ at (new .version) (new .value)) u₀ → u₂ ≡ cond c (putConfig u₁ at (new .generation) (new .config)) u₁
-    → u₂ ≡ putCopies t n r new (s + 1)
-unfolding putCopies
-put-turn t n r new s so-far place data? config? first second = second ∙ rw (add-one s, first, so-far, place, data?, config?)
+-- the puts of a station take effect
+pub put-turn : (n : ℕ) (r : Round) (new : Copy) (s : ℕ) (u₀ : List ℕ) {u₁ u₂ target : List ℕ} {at : ℕ} {d c : Bool}
+    → at ≡ address n (r .item) s → d ≡ member (r .dataPuts) s → c ≡ member (r .configPuts) s → target ≡ new .config
+    → u₁ ≡ cond d (putData u₀ at (new .version) (new .value)) u₀ → u₂ ≡ cond c (putConfig u₁ at (new .generation) target) u₁
+    → u₂ ≡ put-station n r new s u₀
+put-turn n r new s u₀ place data? config? stores first second = second ∙ rw (first, place, data?, config?, stores)
 
 -- ---- lay
 -- both halves of a copy, one after the other, are the whole copy

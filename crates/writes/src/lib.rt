@@ -55,7 +55,7 @@ fn put_config_if(
     }
 }
 
-// Every put of the round takes effect, station by station.
+// Every put of the round takes effect, at the stations that have one, the lowest first.
 fn put_each(
     t: &mut [u8],
     n: usize,
@@ -69,7 +69,12 @@ fn put_each(
 {
     let i = round.item;
     let target = config_bytes_at(t, TARGET_AT);
-    for s in 0..n {
+    let mut rest = sets::united(round.data_puts, round.config_puts);
+    while rest != 0 {
+        let s = sets::lowest(rest);
+        if n <= s {
+            return;
+        }
         let at = address(n, i, s);
         put_data_if(t, at, sets::is_member(round.data_puts, s), version, value);
         put_config_if(
@@ -79,10 +84,11 @@ fn put_each(
             generation,
             target,
         );
+        rest = sets::without_lowest(rest);
     }
 }
 
-// The same; a round without puts, as every read is, leaves the copies alone. Then the round closes.
+// The same, and then the round closes.
 pub fn finish(
     t: &mut [u8],
     n: usize,
@@ -94,9 +100,7 @@ pub fn finish(
     requires { ⌜ InTable (now t) n (round .item) × (round ≡ roundIn (now t)) ⌝ }
     ensures { λ _. ⌜ now (t .exit) ≡ closed (putCopies (now (t .entry)) n (asRound round) (newCopy (version .0) value (generation .0) (round .target)) n) ⌝ }
 {
-    if (round.data_puts != 0) | (round.config_puts != 0) {
-        put_each(t, n, round, value, version, generation);
-    }
+    put_each(t, n, round, value, version, generation);
     set_round(t, NO_ROUND, 0, 0, [0u8; CONFIG_SIZE])
 }
 

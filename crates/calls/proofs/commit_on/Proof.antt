@@ -11,16 +11,16 @@ use Rattle.calls.proofs.Committing.{commit-refused, commit-finished}
 use Rattle.calls.proofs.commit_on.Statement.{statement}
 use Rattle.calls.proofs.commit_on.Tie as tie
 
--- from the number asked for, and from the look ahead, back to the call
+-- from the number asked for, and from the reply, back to the call
 abbrev called : tie.After-idle-number → tie.Start
 called c = c .before .before .before
 
-abbrev looked : tie.After-look-ahead → tie.Start
-looked c = called (c .before .before .before)
+abbrev replied : tie.After-commit-reply → tie.Start
+replied c = called (c .before .before .before)
 
--- from the round that was read to the look ahead
-abbrev ahead : tie.After-stations → tie.After-look-ahead
-ahead c = c .before .before .before .before .before .before
+-- from the round that was read to the reply
+abbrev reply : tie.After-stations → tie.After-commit-reply
+reply c = c .before .before .before .before .before
 
 idle-number-requires : tie.Need-idle-number-requires
 idle-number-requires c κs = search needs
@@ -38,9 +38,9 @@ returns c =
     let told = c .plain .ensures in
     commit-refused _ (told ∙ idle-reply _ (called asked .pre) (asked .idle-number .ensures) refused) (λ z. refused (sym (ap (λ r. r .number) told) ∙ z))
 
-look-ahead-requires : tie.Need-look-ahead-requires
+commit-reply-requires : tie.Need-commit-reply-requires
 unfolding calls-needs
-look-ahead-requires c κs =
+commit-reply-requires c κs =
     let left = c .before in
     let asked = left .before in
     let s = called asked .pre in (s, shown _ s abandon refl (asked .idle-number .ensures) (left .if1 .left) .1 .0)
@@ -49,19 +49,19 @@ same-length-2 : tie.Need-same-length-2
 same-length-2 c = search needs
 
 returns-2 : tie.Need-returns-2
-returns-2 c = commit-refused _ (c .before .before .before .look-ahead .ensures .0) (c .if2 .taken)
+returns-2 c = commit-refused _ (c .before .before .commit-reply .ensures) (c .if2 .taken)
 
 stations-requires : tie.Need-stations-requires
-stations-requires c κs = sound-head _ (looked (c .before .before .before .before .before) .pre)
+stations-requires c κs = sound-head _ (replied (c .before .before .before .before) .pre)
 
 of-requires : tie.Need-of-requires
-of-requires c κs = sound-head _ (looked (ahead (c .before)) .pre)
+of-requires c κs = sound-head _ (replied (reply (c .before)) .pre)
 
 finish-requires : tie.Need-finish-requires
 unfolding view
 finish-requires c κs =
     let counted = c .before .before in
-    let s = looked (ahead counted) .pre in
+    let s = replied (reply counted) .pre in
     (rw (counted .stations .ensures, c .«of» .ensures) (items-in-table _ s _ (is-sound _ s .item)), c .«of» .ensures)
 
 same-length-3 : tie.Need-same-length-3
@@ -72,7 +72,7 @@ returns-3 c =
     let finished = c .before .before in
     let round = finished .before in
     let counted = round .before .before in
-    commit-finished _ (ahead counted .look-ahead .ensures .0) (counted .before .before .before .if2 .left) (counted .stations .ensures) (round .«of» .ensures)
+    commit-finished _ (reply counted .commit-reply .ensures) (counted .before .before .before .if2 .left) (counted .stations .ensures) (round .«of» .ensures)
     (finished .finish .ensures)
 
 pub commit-on-spec : {M : Type 1} → statement M
@@ -83,7 +83,7 @@ commit-on-spec =
     plain-requires
     same-length
     returns
-    look-ahead-requires
+    commit-reply-requires
     same-length-2
     returns-2
     stations-requires

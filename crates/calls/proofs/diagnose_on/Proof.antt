@@ -5,7 +5,6 @@ use Rattle.rules.specs.Rules.{first, tests}
 use Rattle.rules.specs.Needs.{needs as calls-needs}
 use borrow.Author.Needs.{needs}
 use Rattle.openings.proofs.Replies.{diagnose-asks, refused, shown}
-use Rattle.calls.proofs.Diagnosing.{diagnosed}
 use Rattle.calls.proofs.diagnose_on.Statement.{statement}
 use Rattle.calls.proofs.diagnose_on.Tie as tie
 
@@ -26,18 +25,14 @@ returns : tie.Need-returns
 returns c =
     let asked = c .before .before in refused _ (called asked .pre) diagnose refl (own-number asked) (c .before .if1 .taken) (c .plain .ensures) .0
 
-look-ahead-requires : tie.Need-look-ahead-requires
+diagnose-reply-requires : tie.Need-diagnose-reply-requires
 unfolding calls-needs
-look-ahead-requires c κs =
+diagnose-reply-requires c κs =
     let asked = c .before in
     let s = called asked .pre in (s, shown _ s diagnose refl (own-number asked) (c .if1 .left) .1 .0)
 
 returns-2 : tie.Need-returns-2
-returns-2 c =
-    let seen = c .before .look-ahead .ensures in
-    let left = c .before .before in
-    let asked = left .before in
-    diagnosed _ (called asked .pre) (own-number asked) (left .if1 .left) (seen .0) (seen .1 .0) (seen .1 .1)
+returns-2 c = c .diagnose-reply .ensures
 
 pub diagnose-on-spec : {M : Type 1} → statement M
-diagnose-on-spec = tie.close (tie.spec idle-number-requires plain-requires returns look-ahead-requires returns-2)
+diagnose-on-spec = tie.close (tie.spec idle-number-requires plain-requires returns diagnose-reply-requires returns-2)

@@ -7,7 +7,7 @@ use Rattle.layout.specs.View.{Table, view}
 use Rattle.layout.proofs.Soundness.{sound-head}
 use Rattle.layout.proofs.Newer.{place-fits}
 use Rattle.rounds.specs.Round.{asRound}
-use Rattle.numbers.proofs.Refusals.{own-copies}
+use Rattle.rounds.proofs.Hearing.{own-copies}
 use Rattle.rules.specs.Calls.{poll}
 use Rattle.rules.specs.After.{done}
 use Rattle.openings.proofs.Replies.{refused, finished}

@@ -2,6 +2,7 @@ use mathlib.Core.Path.{_≡_, sym, _∙_}
 use mathlib.Core.Bool.{Bool, true, false, cond}
 use Prim.Native.Nat.{ℕ}
 use lib.ListN.{drop}
+use borrow.Author.Needs.{needs}
 use borrow.Author.Tests.{eq-eqb, ne-eqb, not-false}
 use Rattle.basics.proofs.Tests.{clash, or-cases}
 use Rattle.layout.specs.Fields.{change}
@@ -9,7 +10,8 @@ use Rattle.layout.specs.View.{view}
 use Rattle.layout.proofs.Soundness.{sound-head}
 use Rattle.rules.specs.Calls.{put, isData, isConfigSort}
 use Rattle.rules.specs.Rules.{first, noSort, tests}
-use Rattle.numbers.proofs.Refusals.{is-kind, is-change}
+use Rattle.layout.proofs.OneWalk.{version-carried, generation-carried}
+use Rattle.numbers.proofs.Refusals.{is-kind, is-change, last-test}
 use Rattle.numbers.proofs.put_kind_number.Statement.{statement}
 use Rattle.numbers.proofs.put_kind_number.Tie as tie
 
@@ -25,7 +27,7 @@ data-sort : (sort : ℕ) → noSort sort ≡ false → isConfigSort sort ≡ fal
 data-sort sort e f = or-cases (isData sort) (isConfigSort sort) (not-false _ e) (λ d. d) (λ c. clash c f)
 
 -- in a write, a data put: by the test of the version found
-data-put : (c : tie.After-version-spent) {r : Bool} → c .version-spent .result ≡ r → last-tests (called (c .before .before .before .before)) ≡ cond r 10 0
+data-put : (c : tie.After-is-last) {r : Bool} → c .is-last .result ≡ r → last-tests (called (c .before .before .before .before)) ≡ cond r 10 0
 unfolding tests first view
 data-put c e =
     let sort = c .before in
@@ -33,7 +35,8 @@ data-put c e =
     let kind = write .before .before in
     let no-config = ne-eqb _ _ (sort .if3 .left) in
     let is-data = data-sort (called kind .args .sort) (called kind .pre .2) no-config in
-    rw (is-kind 2 (kind .kind .ensures) (write .if2 .taken), no-config, is-data, sym (c .version-spent .ensures) ∙ e)
+    let spent = last-test (c .is-last .ensures) (version-carried _ _ _ (called kind .pre .3)) e in
+    rw (is-kind 2 (kind .kind .ensures) (write .if2 .taken), no-config, is-data, spent)
 
 -- what is neither a read nor a write is a change
 changes : (c : tie.Else2) → view ((called (c .before .before) .args .t) .now) .round .kind ≡ change
@@ -42,12 +45,14 @@ changes c =
     let kind = c .before .before in is-change (kind .kind .ensures) (called kind .pre .1) (c .before .if1 .left) (c .if2 .left)
 
 -- in a change, a configuration put: by the test of the generation found
-config-put : (c : tie.After-generation-spent) {r : Bool} → c .generation-spent .result ≡ r
+config-put : (c : tie.After-is-last2) {r : Bool} → c .is-last2 .result ≡ r
     → last-tests (called (c .before .before .before .before)) ≡ cond r 10 0
 unfolding tests first view
 config-put c e =
     let sort = c .before in
-    rw (changes (sort .before), eq-eqb _ _ (sort .if5 .taken), sym (c .generation-spent .ensures) ∙ e)
+    let kind = sort .before .before .before in
+    let spent = last-test (c .is-last2 .ensures) (generation-carried _ _ _ (called kind .pre .3)) e in
+    rw (changes (sort .before), eq-eqb _ _ (sort .if5 .taken), spent)
 
 kind-requires : tie.Need-kind-requires
 kind-requires c κs = sound-head _ (c .before .pre .0)
@@ -62,8 +67,8 @@ returns-2 c =
     let write = c .before in
     rw (is-kind 2 (write .before .before .kind .ensures) (write .if2 .taken), eq-eqb _ _ (c .if3 .taken))
 
-version-spent-requires : tie.Need-version-spent-requires
-version-spent-requires c κs = called (c .before .before .before) .pre .0
+is-last-requires : tie.Need-is-last-requires
+is-last-requires c κs = search needs
 
 returns-3 : tie.Need-returns-3
 returns-3 c = sym (data-put (c .before) (c .if4 .taken))
@@ -71,8 +76,8 @@ returns-3 c = sym (data-put (c .before) (c .if4 .taken))
 returns-4 : tie.Need-returns-4
 returns-4 c = sym (data-put (c .before) (c .if4 .left))
 
-generation-spent-requires : tie.Need-generation-spent-requires
-generation-spent-requires c κs = called (c .before .before .before) .pre .0
+is-last-requires-2 : tie.Need-is-last-requires-2
+is-last-requires-2 c κs = search needs
 
 returns-5 : tie.Need-returns-5
 returns-5 c = sym (config-put (c .before) (c .if6 .taken))
@@ -91,10 +96,10 @@ put-kind-number-spec =
     kind-requires
     returns
     returns-2
-    version-spent-requires
+    is-last-requires
     returns-3
     returns-4
-    generation-spent-requires
+    is-last-requires-2
     returns-5
     returns-6
     returns-7)

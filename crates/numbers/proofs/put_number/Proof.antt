@@ -3,12 +3,14 @@ use Prim.Native.Nat.{ℕ}
 use lib.ListN.{drop}
 use borrow.Author.Needs.{needs}
 use borrow.Author.Tests.{not-true, not-false}
-use Rattle.layout.specs.View.{Table, view, heard}
+use Rattle.layout.specs.View.{view}
 use Rattle.layout.proofs.Soundness.{sound-head}
 use Rattle.rules.specs.Calls.{put}
 use Rattle.rules.specs.Rules.{first, tests}
 use Rattle.rules.proofs.Judged.{a-round}
-use Rattle.numbers.proofs.Refusals.{is-below, is-idle, is-open, member-test, not-below, turned, own-copies, own-heard}
+use Rattle.layout.proofs.OneWalk.{nobody-hears}
+use Rattle.table.proofs.Search.{has-found, nobody-found}
+use Rattle.numbers.proofs.Refusals.{is-below, is-idle, is-open, member-test, not-below, turned}
 use Rattle.numbers.proofs.put_number.Statement.{statement}
 use Rattle.numbers.proofs.put_number.Tie as tie
 
@@ -44,18 +46,9 @@ past-off c = rw (member-test _ (c .before .before .off-set .ensures) (c .before 
 past-three : (c : tie.Else4) → past 0 (at-off c) ≡ past 3 (at-off c)
 past-three c = let kind = c .before .before .before in past-sort (kind .before .before) ∙ past-kind kind ∙ past-off c
 
--- whether the round is heard
-abbrev at-heard : tie.After-is-heard → tie.Else4
-at-heard c = c .before .before .before .before
-
-abbrev table : tie.After-is-heard → Table
-table c = (at-off (at-heard c) .args .t) .now
-
-is-round-heard : (c : tie.After-is-heard) → c .is-heard .result ≡ heard (view (table c))
-is-round-heard c =
-    let polled = c .before in
-    let item = polled .before in
-    own-heard _ (item .before .stations2 .ensures) (item .item .ensures) (polled .polled .ensures) (c .is-heard .ensures)
+-- from the copies found back to where they were looked for
+abbrev looked : tie.After-known-told → tie.After-round-found
+looked c = c .before .before .before
 
 stations-requires : tie.Need-stations-requires
 stations-requires c κs = sound-head _ (c .before .pre)
@@ -95,39 +88,48 @@ returns-4 c =
     let tested = member-test _ (off .off-set .ensures) (c .before .is-member .ensures) (c .if4 .taken) in
     sym (past-sort (kind .before .before) ∙ past-kind kind ∙ rw tested)
 
-stations-requires-2 : tie.Need-stations-requires-2
-stations-requires-2 c κs = sound-head _ (at-off c .pre)
+round-found-requires : tie.Need-round-found-requires
+round-found-requires c κs = at-off c .pre
 
-item-requires : tie.Need-item-requires
-item-requires c κs = sound-head _ (at-off (c .before) .pre)
+enum-known-found : tie.Need-enum-known-found
+enum-known-found c = search needs
 
-polled-requires : tie.Need-polled-requires
-polled-requires c κs = sound-head _ (at-off (c .before .before) .pre)
-
-is-heard-requires : tie.Need-is-heard-requires
-is-heard-requires c κs =
-    let item = c .before in
-    let stations = item .before in
-    own-copies _ (at-off (stations .before) .pre) (stations .stations2 .ensures) (item .item .ensures)
+enum-told : tie.Need-enum-told
+enum-told c = search needs
 
 returns-5 : tie.Need-returns-5
 unfolding tests first
 returns-5 c =
-    let asked = c .before in
-    sym (past-three (at-heard asked) ∙ rw (sym (is-round-heard asked) ∙ not-true _ (c .if5 .taken)))
+    let looked = c .before .before in
+    sym (past-three (looked .before) ∙ rw (nobody-hears _ _ _ (nobody-found (looked .round-found .ensures) (c .enum-told .given .1))))
 
-put-kind-number-requires : tie.Need-put-kind-number-requires
-unfolding view
-put-kind-number-requires c κs =
-    let kind = at-heard (c .before) .before .before .before in
-    let sort = kind .before .before in
-    (at-kind kind .pre, a-round _ .0 (is-open (kind .before .kind .ensures) (kind .if3 .left)), turned (sort .before .is-either .ensures) (sort .if2 .left))
+round-is-heard-requires : tie.Need-round-is-heard-requires
+round-is-heard-requires c κs = (at-off (looked c .before) .pre, has-found (looked c .round-found .ensures) (c .before .found .given .1))
 
 returns-6 : tie.Need-returns-6
 unfolding tests first
 returns-6 c =
+    let asked = c .before in
+    sym (past-three (looked (asked .before) .before) ∙ rw (sym (asked .round-is-heard .ensures) ∙ not-true _ (c .if5 .taken)))
+
+put-kind-number-requires : tie.Need-put-kind-number-requires
+unfolding view
+put-kind-number-requires c κs =
+    let told = c .before .before in
+    let kind = looked told .before .before .before .before in
+    let sort = kind .before .before in (
+      at-kind kind .pre,
+      a-round _ .0 (is-open (kind .before .kind .ensures) (kind .if3 .left)),
+      turned (sort .before .is-either .ensures) (sort .if2 .left),
+      has-found (looked told .round-found .ensures) (told .before .found .given .1),
+    )
+
+returns-7 : tie.Need-returns-7
+unfolding tests first
+returns-7 c =
     let asked = c .before .before in
-    c .put-kind-number .ensures ∙ sym (past-three (at-heard asked) ∙ rw (sym (is-round-heard asked) ∙ not-false _ (c .before .if5 .left)))
+    let heard = sym (asked .round-is-heard .ensures) ∙ not-false _ (c .before .if5 .left) in
+    c .put-kind-number .ensures ∙ sym (past-three (looked (asked .before) .before) ∙ rw heard)
 
 pub put-number-spec : {M : Type 1} → statement M
 put-number-spec =
@@ -142,10 +144,11 @@ put-number-spec =
     off-set-requires
     is-member-requires
     returns-4
-    stations-requires-2
-    item-requires
-    polled-requires
-    is-heard-requires
+    round-found-requires
+    enum-known-found
+    enum-told
     returns-5
+    round-is-heard-requires
+    returns-6
     put-kind-number-requires
-    returns-6)
+    returns-7)

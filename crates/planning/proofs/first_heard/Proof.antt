@@ -1,33 +1,30 @@
-use mathlib.Core.Path.{_≡_, _∙_}
-use mathlib.Core.Option.{some}
+use mathlib.Core.Path.{_≡_, sym, _∙_}
 use Prim.Native.Nat.{_+_}
 use native.Mathlib.Omega.{arith}
 use borrow.Author.Needs.{needs}
-use Rattle.layout.specs.Newest.{newest, hears}
-use Rattle.table.specs.Search.{copiesOf, generationsOf}
-use Rattle.table.proofs.Search.{copy-range, copy-fits, left-less}
+use Rattle.layout.specs.Newest.{hears}
+use Rattle.layout.specs.Walk.{walk}
+use Rattle.layout.proofs.Along.{left-less}
+use Rattle.layout.proofs.OneWalk.{walk-empty}
+use Rattle.table.specs.Search.{asOption, copiesOf}
+use Rattle.rounds.specs.Heard.{HasFound}
 use Rattle.planning.proofs.Walking.{Position, position-start, count-fits, next-below, turn, NoneUpTo, none-yet, none-more}
-use Rattle.planning.proofs.Hearing.{is-station, Leads, leads-start, newest-taken, leads-turn, is-heard, says-after, says-never}
+use Rattle.planning.proofs.Hearing.{walk-turn, says-after, says-never}
 use Rattle.planning.proofs.first_heard.Statement.{statement}
 use Rattle.planning.proofs.first_heard.Tie as tie
 
 abbrev Inv-loop : tie.InvT-loop
-Inv-loop t n item on polls₀ polled₀ g₀ rest₀ polls polled g rest =
-    Position on polls rest polled × NoneUpTo (λ set. hears (copiesOf t n item) set n) on polls × Leads (generationsOf t n item) n rest polled g
+Inv-loop t n item on polls₀ polled₀ found₀ rest₀ polls polled found rest =
+    Position on polls rest polled × NoneUpTo (λ set. hears (copiesOf t n item) set n) on polls × (asOption found ≡ walk (copiesOf t n item) polled n)
 
 abbrev μ-loop : tie.MeasureT-loop
-μ-loop t n item on polls₀ polled₀ g₀ rest₀ polls polled g rest = rest
+μ-loop t n item on polls₀ polled₀ found₀ rest₀ polls polled found rest = rest
+
+loop-holds : tie.Need-loop-holds Inv-loop μ-loop
+loop-holds c = (position-start _ (c .before .fits .on .fits), none-yet, sym (walk-empty _ _))
 
 lowest-requires : tie.Need-lowest-requires Inv-loop μ-loop
 lowest-requires c κs = search needs
-
-loop-holds : tie.Need-loop-holds Inv-loop μ-loop
-loop-holds c =
-    let start = c .before .before in
-    let on = start .fits .on .fits in (position-start _ on, none-yet, leads-start _ _ _ on (start .pre .1) (c .lowest .ensures))
-
-lowest-requires-2 : tie.Need-lowest-requires-2 Inv-loop μ-loop
-lowest-requires-2 c κs = search needs
 
 without-lowest-requires : tie.Need-without-lowest-requires Inv-loop μ-loop
 without-lowest-requires c κs = search needs
@@ -35,78 +32,61 @@ without-lowest-requires c κs = search needs
 add-polls : tie.Need-add-polls Inv-loop μ-loop
 add-polls c = omega (arith, count-fits (c .before .before .before .loop .inv .0))
 
--- the position after a station is taken
-stepped : (c : tie.After-with-station Inv-loop μ-loop) → let turned = c .before .before .before .before in
-    Position (turned .before .before .before .args .on) (turned .loop .polls + 1) (c .before .without-lowest .result) (c .with-station .result)
-stepped c =
-    let low = c .before .before in
-    let tested = low .before in
-    turn (tested .before .loop .inv .0) (tested .loop-test .taken) (low .lowest2 .ensures) (c .before .without-lowest .ensures) (c .with-station .ensures)
-
 with-station-requires : tie.Need-with-station-requires Inv-loop μ-loop
 with-station-requires c κs = search needs
 
-newer-by-generation-requires : tie.Need-newer-by-generation-requires Inv-loop μ-loop
-newer-by-generation-requires c κs =
+-- from a station taken back to the turn's start, and to the call
+abbrev turned : tie.After-with-station Inv-loop μ-loop → tie.At-loop Inv-loop μ-loop
+turned c = c .before .before .before .before
+
+abbrev called : tie.After-with-station Inv-loop μ-loop → tie.Start Inv-loop μ-loop
+called c = turned c .before .before
+
+onward-requires : tie.Need-onward-requires Inv-loop μ-loop
+onward-requires c κs =
     let low = c .before .before in
-    let tested = low .before in
-    let turned = tested .before in
-    let pre = turned .before .before .before .pre in
-    let leading = turned .loop .inv .2 .station (tested .loop-test .taken) in
-    let next = next-below (turned .loop .inv .0) (tested .loop-test .taken) (low .lowest2 .ensures) _ (pre .1) in
-    (pre .0, omega (arith, leading, next), omega (arith, leading, next))
+    let pre = called c .pre in
+    (pre .0, next-below (turned c .loop .inv .0) (low .before .loop-test .taken) (low .lowest .ensures) _ (pre .1))
 
--- from the station compared back to the call
-abbrev at-start : tie.After-newer-by-generation Inv-loop μ-loop → tie.Start Inv-loop μ-loop
-at-start c = let low = c .before .before .before in low .before .before .before .before .before
+-- the position after it, and what the walk has found then
+stepped : (c : tie.After-with-station Inv-loop μ-loop)
+    → Position (called c .args .on) (turned c .loop .polls + 1) (c .before .without-lowest .result) (c .with-station .result)
+stepped c =
+    let low = c .before .before in
+    turn (turned c .loop .inv .0) (low .before .loop-test .taken) (low .lowest .ensures) (c .before .without-lowest .ensures) (c .with-station .ensures)
 
--- g is then the newest of the stations polled
-newest-polled : (c : tie.After-newer-by-generation Inv-loop μ-loop) → let start = at-start c .args in
-    newest (generationsOf (start .t .now) (start .n) (start .item)) (c .before .with-station .result) (start .n) ≡ some (c .newer-by-generation .result)
-newest-polled c =
-    let low = c .before .before .before in
-    let tested = low .before in
-    let turned = tested .before in
-    newest-taken (turned .loop .inv .0) (turned .before .before .before .pre .1) (turned .loop .inv .2) (tested .loop-test .taken) (low .lowest2 .ensures)
-    (c .before .with-station .ensures) (c .newer-by-generation .ensures)
+found : (c : tie.After-onward Inv-loop μ-loop) → let start = called (c .before) .args in
+    HasFound (start .t .now) (start .n) (start .item) (c .before .with-station .result) (c .onward .result)
+found c =
+    let joined = c .before in
+    let low = joined .before .before in
+    let inv = turned joined .loop .inv in
+    walk-turn _ _ (inv .0) (called joined .pre .1) (low .before .loop-test .taken) (inv .2) (low .lowest .ensures) (joined .with-station .ensures)
+    (c .onward .ensures)
 
-address-requires : tie.Need-address-requires Inv-loop μ-loop
-address-requires c κs = copy-range (at-start c .pre .0) (is-station _ _ _ _ (newest-polled c))
-
-config-at-requires : tie.Need-config-at-requires Inv-loop μ-loop
-config-at-requires c κs = copy-fits (at-start (c .before) .pre .0) (is-station _ _ _ _ (newest-polled (c .before))) (c .address .ensures)
-
-holds-read-set-requires : tie.Need-holds-read-set-requires Inv-loop μ-loop
-holds-read-set-requires c κs = search needs
-
--- what is tested
-is-tested : (c : tie.After-holds-read-set Inv-loop μ-loop) → let polled = c .before .before .before in
-    let start = at-start polled .args in
-    hears (copiesOf (start .t .now) (start .n) (start .item)) (polled .before .with-station .result) (start .n) ≡ c .holds-read-set .result
-is-tested c =
-    let read = c .before in
-    is-heard _ _ _ _ _ (newest-polled (read .before .before)) (read .before .address .ensures) (read .config-at .ensures) (c .holds-read-set .ensures)
+is-heard-requires : tie.Need-is-heard-requires Inv-loop μ-loop
+is-heard-requires c κs = (called (c .before) .pre .0, found c)
 
 returns : tie.Need-returns Inv-loop μ-loop
 returns c =
-    let polled = c .before .before .before .before in
-    let turned = polled .before .before .before .before .before in
-    says-after _ _ _ (turned .loop .inv .1) (stepped (polled .before)) _ (newest-polled polled) (is-tested (c .before) ∙ c .if1 .taken)
+    let tested = c .before in
+    let joined = tested .before .before in
+    says-after _ _ _ (turned joined .loop .inv .1) (stepped joined) (found (tested .before)) (sym (tested .is-heard .ensures) ∙ c .if1 .taken)
 
 loop-less : tie.Need-loop-less Inv-loop μ-loop
 loop-less c =
-    let left = c .before .before .before .before .before .before in
+    let left = c .before .before .before .before in
     let tested = left .before .before in
     left-less _ (tested .before .loop .inv .0 .small) (tested .loop-test .taken) (left .without-lowest .ensures)
 
 loop-again : tie.Need-loop-again Inv-loop μ-loop
 loop-again c =
-    let polled = c .before .before .before .before in
-    let turned = polled .before .before .before .before .before in
-    let after = stepped (polled .before) in (
+    let tested = c .before in
+    let joined = tested .before .before in
+    let after = stepped joined in (
       after,
-      none-more (turned .loop .inv .1) after (is-tested (c .before) ∙ c .if1 .left),
-      leads-turn (newest-polled polled),
+      none-more (turned joined .loop .inv .1) after (sym (tested .is-heard .ensures) ∙ c .if1 .left),
+      sym (found (tested .before)),
     )
 
 returns-2 : tie.Need-returns-2 Inv-loop μ-loop
@@ -118,16 +98,13 @@ first-heard-spec =
     (tie.spec
     Inv-loop
     μ-loop
-    lowest-requires
     loop-holds
-    lowest-requires-2
+    lowest-requires
     without-lowest-requires
     add-polls
     with-station-requires
-    newer-by-generation-requires
-    address-requires
-    config-at-requires
-    holds-read-set-requires
+    onward-requires
+    is-heard-requires
     returns
     loop-less
     loop-again

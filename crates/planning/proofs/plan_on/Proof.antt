@@ -6,7 +6,6 @@ use Rattle.layout.specs.Fields.{items}
 use Rattle.layout.specs.View.{view}
 use Rattle.layout.proofs.Soundness.{sound-head}
 use Rattle.table.specs.Search.{InTable}
-use Rattle.table.proofs.Search.{copy-range, copy-fits}
 use Rattle.rounds.proofs.Hearing.{copies-in-table}
 use Rattle.rules.specs.Calls.{reach, plan}
 use Rattle.rules.specs.Needs.{needs as needed}
@@ -85,11 +84,8 @@ returns-2 c =
     refused _ (start .pre) (plan _) refl (unheard _ (start .pre) _ (there bus) (bus .before .stations .ensures) (bus .on-bus .ensures) said) (omega arith)
     (c .plain2 .ensures) .0
 
-address-requires : tie.Need-address-requires
-address-requires c κs = copy-range (in-table (at-bus (c .before))) (says (c .before) .2)
-
-config-at-requires : tie.Need-config-at-requires
-config-at-requires c κs = let told = c .before .before in copy-fits (in-table (at-bus told)) (says told .2) (c .address .ensures)
+config-found-requires : tie.Need-config-found-requires
+config-found-requires c κs = let told = c .before in (in-table (at-bus told), says told .2)
 
 puts-needed-requires : tie.Need-puts-needed-requires
 puts-needed-requires c κs = search needs
@@ -97,16 +93,16 @@ puts-needed-requires c κs = search needs
 returns-3 : tie.Need-returns-3
 returns-3 c =
     let read = c .before in
-    let addressed = read .before in
-    let told = addressed .before .before in
+    let told = read .before .before in
     let bus = at-bus told in
     let start = at-start bus in
     let s = start .pre in
     let n = bus .before .stations .ensures in
     let on = bus .on-bus .ensures in
-    let d = addressed .address .ensures in
-    finished _ s (plan _) refl (heard _ s _ (there bus) n on (says told) d (read .config-at .ensures) (c .puts-needed .ensures)) refl
-    (figures _ s _ (there bus) n on (says told) d (read .config-at .ensures) (c .puts-needed .ensures)) refl .0
+    let newest = told .polls .given .0 .1 .0 in
+    let config = read .config-found .ensures in
+    finished _ s (plan _) refl (heard _ s _ (there bus) n on newest (says told) config (c .puts-needed .ensures)) refl
+    (figures _ s _ (there bus) n on newest (says told) config (c .puts-needed .ensures)) refl .0
 
 pub plan-on-spec : {M : Type 1} → statement M
 plan-on-spec =
@@ -122,7 +118,6 @@ plan-on-spec =
     enum-told
     plain-requires-2
     returns-2
-    address-requires
-    config-at-requires
+    config-found-requires
     puts-needed-requires
     returns-3)

@@ -3,7 +3,7 @@ use Prim.Native.Nat.{_+_}
 use native.Mathlib.Omega.{arith}
 use borrow.Author.Needs.{needs}
 use Rattle.quorum.specs.Configurations.{holdsWrite}
-use Rattle.table.proofs.Search.{left-less}
+use Rattle.layout.proofs.Along.{left-less}
 use Rattle.planning.proofs.Walking.{Position, position-start, count-fits, turn, NoneUpTo, none-yet, none-more, first-passes, none-at-all}
 use Rattle.planning.proofs.puts_needed.Statement.{statement}
 use Rattle.planning.proofs.puts_needed.Tie as tie
