@@ -9,8 +9,8 @@ use Rattle.layout.specs.Fields.{stations, roundOf}
 use Rattle.layout.specs.Newest.{heardPlace, hears}
 use Rattle.layout.specs.Rounds.{withPoll}
 use Rattle.layout.specs.View.{view, onBus}
-use Rattle.table.specs.Search.{copiesOf}
-use Rattle.table.specs.declared.newest.Newest.{Newest}
+use Rattle.table.specs.ItemCopies.{copiesOf}
+use Rattle.newest.specs.declared.Newest.{Newest}
 use Rattle.rounds.specs.Heard.{HasFound}
 use Rattle.rounds.proofs.Hearing.{config-is}
 use Rattle.rules.specs.Calls.{poll}

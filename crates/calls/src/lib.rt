@@ -10,6 +10,9 @@ ghost use Rattle.rules.specs.Figures.{reachFigure};
 ghost use Rattle.rules.specs.Reply.{reply, after};
 use closing::commit_reply;
 use closing::diagnose_reply;
+use newest::Found;
+use newest::config_found;
+use newest::walk;
 use numbers::DATA;
 use numbers::DONE;
 use numbers::OFF;
@@ -31,9 +34,6 @@ use table::head::set_off;
 use table::head::set_polled;
 use table::head::set_puts;
 use table::head::stations;
-use table::newest::Found;
-use table::newest::config_found;
-use table::newest::walk;
 use writes::finish;
 
 pub fn poll_on(t: &mut [u8], station: u64) -> Reply

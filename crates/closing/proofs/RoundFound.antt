@@ -11,7 +11,7 @@ use Rattle.layout.specs.Fields.{stations, roundOf}
 use Rattle.layout.specs.Newest.{hears}
 use Rattle.layout.specs.View.{view, readPlace, heard}
 use Rattle.layout.proofs.OneWalk.{version-below, generation-below, version-found, generation-found}
-use Rattle.table.specs.declared.newest.Newest.{Newest}
+use Rattle.newest.specs.declared.Newest.{Newest}
 use Rattle.rounds.specs.Heard.{OwnFound}
 use Rattle.rounds.proofs.Hearing.{own-fits, own-copy}
 use Rattle.closing.specs.Closing.{OpenRound, HeardAt, ValueAt}

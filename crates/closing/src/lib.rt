@@ -7,6 +7,7 @@ ghost use Rattle.rules.specs.Reply.{reply};
 ghost use Rattle.closing.specs.Closing.{OpenRound, HeardAt, VersionFound, GenerationFound, ValueAt, OfKind, closingNumber, closingReply};
 use layout::READ;
 use layout::WRITE;
+use newest::Found;
 use numbers::DONE;
 use numbers::SHORT;
 use numbers::SPENT;
@@ -26,7 +27,6 @@ use table::head::data_puts;
 use table::head::kind;
 use table::head::target;
 use table::head::value;
-use table::newest::Found;
 
 // The reply to a commit.
 pub fn commit_reply(t: &[u8]) -> Reply

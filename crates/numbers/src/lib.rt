@@ -14,6 +14,8 @@ ghost use Rattle.rules.specs.Rules.{first, noSort, readingOver, tests};
 use layout::NO_ROUND;
 use layout::READ;
 use layout::WRITE;
+use newest::Found;
+use newest::Newest;
 use rounds::found::round_found;
 use rounds::found::round_is_heard;
 use rules::Reply;
@@ -24,8 +26,6 @@ use table::head::kind;
 use table::head::lay_length;
 use table::head::off_set;
 use table::head::stations;
-use table::newest::Found;
-use table::newest::Newest;
 
 pub const DONE: u64 = 0;
 

@@ -10,8 +10,8 @@ use Rattle.layout.specs.Fields.{Copy}
 use Rattle.layout.specs.Newest.{byGeneration, hears}
 use Rattle.layout.specs.Walk.{Walked, onward, walk}
 use Rattle.layout.proofs.OneWalk.{walk-joined, generation-below, generation-found}
-use Rattle.table.specs.Search.{copiesOf}
-use Rattle.table.specs.declared.newest.Newest.{Newest}
+use Rattle.table.specs.ItemCopies.{copiesOf}
+use Rattle.newest.specs.declared.Newest.{Newest}
 use Rattle.rounds.specs.Heard.{HasFound}
 use Rattle.plan.specs.Starts.{rising, start}
 use Rattle.plan.specs.Plan.{pollsNeeded}

@@ -20,8 +20,8 @@ use Rattle.rules.specs.Figures.{figuresOf}
 use Rattle.rules.specs.Reply.{answer}
 use Rattle.rules.specs.declared.Reply.{Reply}
 use Rattle.rules.proofs.Steps.{on-bus}
-use Rattle.table.specs.Search.{copiesOf}
-use Rattle.table.specs.declared.newest.Newest.{Newest}
+use Rattle.table.specs.ItemCopies.{copiesOf}
+use Rattle.newest.specs.declared.Newest.{Newest}
 use Rattle.planning.specs.Planning.{Says}
 use Rattle.planning.specs.declared.FirstHeard.the-variants.{After, Never}
 

@@ -4,7 +4,7 @@ use mathlib.Core.List.{List}
 use Prim.Native.Nat.{ℕ, _≤_, _<_}
 use Rattle.quorum.specs.Configurations.{placeFigure}
 use Rattle.plan.specs.Plan.{pollsNeeded, foundByStart}
-use Rattle.table.specs.Search.{copiesOf}
+use Rattle.table.specs.ItemCopies.{copiesOf}
 use Rattle.planning.specs.declared.FirstHeard.{FirstHeard}
 use Rattle.planning.specs.declared.FirstHeard.the-variants.{After, Never}
 

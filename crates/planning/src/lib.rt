@@ -3,12 +3,15 @@ ghost use mathlib.Core.Path.{_≡_};
 ghost use mathlib.Core.Bool.{true};
 ghost use Rattle.quorum.specs.Sets.{within};
 ghost use Rattle.quorum.specs.Configurations.{placeFigure, holdsWrite};
-ghost use Rattle.table.specs.Search.{InTable};
+ghost use Rattle.table.specs.ItemCopies.{InTable};
 ghost use Rattle.plan.specs.Starts.{rising, firstStart};
 ghost use Rattle.layout.specs.Soundness.{sound};
 ghost use Rattle.rules.specs.Calls.{plan};
 ghost use Rattle.rules.specs.Reply.{reply};
 ghost use Rattle.planning.specs.Planning.{Says};
+use newest::Found;
+use newest::Newest;
+use newest::config_found;
 use numbers::DONE;
 use numbers::OUT_OF_HEARING;
 use numbers::item_number;
@@ -17,9 +20,6 @@ use rounds::heard::is_heard;
 use rules::Reply;
 use table::head::on_bus;
 use table::head::stations;
-use table::newest::Found;
-use table::newest::Newest;
-use table::newest::config_found;
 
 // After how many polls a round is first heard, and the newest copies then.
 pub enum FirstHeard {

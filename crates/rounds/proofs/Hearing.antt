@@ -14,10 +14,10 @@ use Rattle.quorum.specs.declared.Place.{Place}
 use Rattle.layout.specs.Newest.{byGeneration, heardPlace, hears}
 use Rattle.layout.specs.View.{view, own, readPlace, heard}
 use Rattle.layout.specs.Walk.{Walked, walk}
-use Rattle.table.specs.Search.{InTable, copiesOf}
-use Rattle.table.specs.declared.newest.Newest.{Newest}
+use Rattle.table.specs.ItemCopies.{InTable, copiesOf}
+use Rattle.newest.specs.declared.Newest.{Newest}
 use Rattle.layout.proofs.OneWalk.{generation-found}
-use Rattle.table.proofs.Search.{copy-fits}
+use Rattle.table.proofs.ItemCopies.{copy-fits}
 use Rattle.rounds.specs.Heard.{HasFound, ownWalk, OwnFound}
 use Rattle.layout.proofs.Fields.{address-table}
 use Rattle.layout.proofs.Soundness.{sound-facts}

@@ -5,8 +5,9 @@ use mathlib.Core.Option.{Option, some}
 use Prim.Native.Nat.{ℕ}
 use Rattle.layout.specs.View.{view, own}
 use Rattle.layout.specs.Walk.{Walked, walk}
-use Rattle.table.specs.Search.{asWalked, copiesOf}
-use Rattle.table.specs.declared.newest.Newest.{Newest}
+use Rattle.table.specs.ItemCopies.{copiesOf}
+use Rattle.newest.specs.Walks.{asWalked}
+use Rattle.newest.specs.declared.Newest.{Newest}
 
 -- of an item's copies at n stations and a polled set
 abbrev pub HasFound : List ℕ → ℕ → ℕ → ℕ → Newest → Type 0

@@ -6,18 +6,18 @@ ghost use Rattle.layout.specs.Layout.{address};
 ghost use Rattle.layout.specs.Fields.{stations, roundOf};
 ghost use Rattle.layout.specs.Soundness.{sound};
 ghost use Rattle.layout.specs.View.{view, readPlace, heard};
-ghost use Rattle.table.specs.Search.{asOption};
+ghost use Rattle.newest.specs.Walks.{asOption};
 ghost use Rattle.rounds.specs.Heard.{ownWalk, OwnFound};
 use crate::heard::is_heard;
 use crate::heard::read_place;
+use newest::Found;
+use newest::Newest;
+use newest::walk;
 use quorum::Place;
 use table::copy::address;
 use table::head::item;
 use table::head::polled;
 use table::head::stations;
-use table::newest::Found;
-use table::newest::Newest;
-use table::newest::walk;
 
 // The newest of its polled copies.
 pub fn round_found(t: &[u8]) -> Found

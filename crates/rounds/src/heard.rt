@@ -1,13 +1,13 @@
 // Whether a round that has polled some stations is heard, by what the walk over their copies has found.
 ghost use mathlib.Core.Path.{_≡_};
 ghost use Rattle.layout.specs.Newest.{heardPlace, hears};
-ghost use Rattle.table.specs.Search.{InTable, copiesOf};
+ghost use Rattle.table.specs.ItemCopies.{InTable, copiesOf};
 ghost use Rattle.rounds.specs.Heard.{HasFound};
+use newest::Found;
+use newest::Newest;
+use newest::config_found;
+use newest::walk;
 use quorum::Place;
-use table::newest::Found;
-use table::newest::Newest;
-use table::newest::config_found;
-use table::newest::walk;
 
 // The first read place of the configuration found that the polled set holds: the test for heard.
 pub fn read_place(t: &[u8], n: usize, item: usize, polled: u16, newest: Newest) -> Place

@@ -1,2 +1,2 @@
 pub mod Lent
-pub mod Search
+pub mod ItemCopies

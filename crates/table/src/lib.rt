@@ -1,5 +1,4 @@
 // The bytes of the table.
 pub mod copy;
 pub mod head;
-pub mod newest;
 pub mod number;

@@ -17,7 +17,7 @@ use Rattle.quorum.proofs.Promise.{promise}
 use Rattle.quorum.specs.Configurations.{configSize}
 use Rattle.layout.specs.Layout.{headSize, offAt, copiesAt, copySize, address, tableLength}
 use Rattle.layout.specs.Fields.{Copy, Round}
-use Rattle.table.specs.Search.{InTable}
+use Rattle.table.specs.ItemCopies.{InTable}
 use Rattle.layout.specs.Updates.{setOff, putData, putConfig, copyBytes, repeated, laidHead, laid, putCopy, putCopies}
 use Rattle.basics.proofs.Parts.{part-left, part-length, length-over, part-inside, part-whole, length-bytes, over-again, over-append, over-own}
 use Rattle.basics.proofs.Writing.{over-all}

@@ -7,7 +7,7 @@ ghost use Rattle.basics.specs.Bytes.{part, over};
 ghost use Rattle.quorum.specs.Configurations.{configSize};
 ghost use Rattle.layout.specs.Layout.{headSize, copiesAt, copySize, tableLength};
 ghost use Rattle.layout.specs.Fields.{newCopy};
-ghost use Rattle.table.specs.Search.{InTable};
+ghost use Rattle.table.specs.ItemCopies.{InTable};
 ghost use Rattle.layout.specs.Updates.{putData, putConfig, copyBytes, repeated, laidHead, laid, putCopies, closed};
 ghost use Rattle.rounds.specs.Round.{asRound, roundIn};
 use layout::COPIES_AT;

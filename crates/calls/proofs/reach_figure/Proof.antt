@@ -5,8 +5,8 @@ use borrow.Author.Needs.{needs}
 use Rattle.layout.specs.View.{view}
 use Rattle.layout.proofs.OneWalk.{generation-below, nobody-hears}
 use Rattle.layout.proofs.Soundness.{sound-head}
-use Rattle.table.specs.Search.{InTable}
-use Rattle.table.proofs.Search.{has-found, nobody-found}
+use Rattle.table.specs.ItemCopies.{InTable}
+use Rattle.newest.proofs.Walks.{has-found, nobody-found}
 use Rattle.rounds.specs.Heard.{HasFound}
 use Rattle.rounds.proofs.Hearing.{copies-in-table}
 use Rattle.rules.specs.Figures.{reachFigure}

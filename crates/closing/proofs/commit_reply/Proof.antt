@@ -3,7 +3,7 @@ use borrow.Author.Needs.{needs}
 use borrow.Author.Tests.{not-true, not-false}
 use Rattle.layout.specs.View.{Table}
 use Rattle.layout.proofs.OneWalk.{version-carried, generation-carried, nobody-hears}
-use Rattle.table.proofs.Search.{has-found, nobody-found}
+use Rattle.newest.proofs.Walks.{has-found, nobody-found}
 use Rattle.rounds.specs.Heard.{OwnFound}
 use Rattle.rules.proofs.Judged.{a-round}
 use Rattle.closing.specs.Closing.{HeardAt}

@@ -8,7 +8,7 @@ use Rattle.layout.specs.View.{Table, view, heard}
 use Rattle.layout.proofs.Newer.{place-fits}
 use Rattle.layout.proofs.OneWalk.{version-carried, generation-carried, station-figure, nobody-hears, nobody-place, nobody-figure}
 use Rattle.layout.proofs.Soundness.{is-sound}
-use Rattle.table.proofs.Search.{has-found, nobody-found}
+use Rattle.newest.proofs.Walks.{has-found, nobody-found}
 use Rattle.rounds.specs.Heard.{OwnFound}
 use Rattle.rules.proofs.Judged.{a-round}
 use Rattle.closing.specs.Closing.{HeardAt}

@@ -9,7 +9,7 @@ use Rattle.rules.specs.Calls.{put}
 use Rattle.rules.specs.Rules.{first, tests}
 use Rattle.rules.proofs.Judged.{a-round}
 use Rattle.layout.proofs.OneWalk.{nobody-hears}
-use Rattle.table.proofs.Search.{has-found, nobody-found}
+use Rattle.newest.proofs.Walks.{has-found, nobody-found}
 use Rattle.numbers.proofs.Refusals.{is-below, is-idle, is-open, member-test, not-below, turned}
 use Rattle.numbers.proofs.put_number.Statement.{statement}
 use Rattle.numbers.proofs.put_number.Tie as tie

@@ -6,7 +6,8 @@ use Rattle.layout.specs.Newest.{hears}
 use Rattle.layout.specs.Walk.{walk}
 use Rattle.layout.proofs.Along.{left-less}
 use Rattle.layout.proofs.OneWalk.{walk-empty}
-use Rattle.table.specs.Search.{asOption, copiesOf}
+use Rattle.table.specs.ItemCopies.{copiesOf}
+use Rattle.newest.specs.Walks.{asOption}
 use Rattle.rounds.specs.Heard.{HasFound}
 use Rattle.planning.proofs.Walking.{Position, position-start, count-fits, next-below, turn, NoneUpTo, none-yet, none-more}
 use Rattle.planning.proofs.Hearing.{walk-turn, says-after, says-never}

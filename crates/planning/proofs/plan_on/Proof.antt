@@ -5,7 +5,7 @@ use borrow.Author.Needs.{needs}
 use Rattle.layout.specs.Fields.{items}
 use Rattle.layout.specs.View.{view}
 use Rattle.layout.proofs.Soundness.{sound-head}
-use Rattle.table.specs.Search.{InTable}
+use Rattle.table.specs.ItemCopies.{InTable}
 use Rattle.rounds.proofs.Hearing.{copies-in-table}
 use Rattle.rules.specs.Calls.{reach, plan}
 use Rattle.rules.specs.Needs.{needs as needed}

@@ -10,7 +10,7 @@ use Rattle.layout.specs.Fields.{newCopy}
 use Rattle.layout.specs.Updates.{putCopies}
 use Rattle.layout.proofs.Along.{Left, left-start, left-done, left-past, left-falls, left-turn}
 use Rattle.layout.proofs.Fields.{address-head}
-use Rattle.table.proofs.Search.{copy-range, copy-fits}
+use Rattle.table.proofs.ItemCopies.{copy-range, copy-fits}
 use Rattle.rounds.specs.Round.{asRound}
 use Rattle.writes.proofs.Writes.{put-station, puts-along, put-turn}
 use Rattle.writes.proofs.put_each.Statement.{statement}

@@ -1,5 +1,5 @@
 use Rattle.layout.proofs.Soundness.{sound-head}
-use Rattle.table.proofs.Search.{copy-range}
+use Rattle.table.proofs.ItemCopies.{copy-range}
 use Rattle.rounds.proofs.Hearing.{own-copies}
 use Rattle.rounds.proofs.found.round_copy.Statement.{statement}
 use Rattle.rounds.proofs.found.round_copy.Tie as tie

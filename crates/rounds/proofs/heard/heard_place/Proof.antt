@@ -1,7 +1,7 @@
 use mathlib.Core.Path.{sym}
 use borrow.Author.Needs.{needs}
 use Rattle.layout.proofs.OneWalk.{nobody-place}
-use Rattle.table.proofs.Search.{has-found, nobody-found}
+use Rattle.newest.proofs.Walks.{has-found, nobody-found}
 use Rattle.rounds.proofs.heard.heard_place.Statement.{statement}
 use Rattle.rounds.proofs.heard.heard_place.Tie as tie
 

@@ -4,13 +4,14 @@ ghost use mathlib.Core.Bool.{cond};
 ghost use Prim.Native.Nat.{_<_};
 ghost use Rattle.layout.specs.Newest.{versionStation, generationStation};
 ghost use Rattle.layout.specs.Walk.{onward, walk, walkedVersion, walkedGeneration};
-ghost use Rattle.table.specs.Search.{asWalked, asOption, InTable, copiesOf};
-use crate::copy::Generation;
-use crate::copy::Version;
-use crate::copy::address;
-use crate::copy::config_at;
-use crate::copy::generation_at;
-use crate::copy::version_at;
+ghost use Rattle.table.specs.ItemCopies.{InTable, copiesOf};
+ghost use Rattle.newest.specs.Walks.{asWalked, asOption};
+use table::copy::Generation;
+use table::copy::Version;
+use table::copy::address;
+use table::copy::config_at;
+use table::copy::generation_at;
+use table::copy::version_at;
 
 // What the walk carries: the stations of the newest copies, and the counters by which they are the newest.
 pub struct Newest {

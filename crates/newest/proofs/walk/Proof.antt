@@ -7,9 +7,10 @@ use Rattle.layout.specs.Newest.{versionStation, generationStation}
 use Rattle.layout.specs.Walk.{Walked, onward, walk, walkedVersion, walkedGeneration}
 use Rattle.layout.proofs.Along.{along, Left, left-start, left-done, left-past, left-falls, left-turn}
 use Rattle.layout.proofs.OneWalk.{one-walk, walk-along}
-use Rattle.table.specs.Search.{asOption, copiesOf}
-use Rattle.table.proofs.newest.walk.Statement.{statement}
-use Rattle.table.proofs.newest.walk.Tie as tie
+use Rattle.table.specs.ItemCopies.{copiesOf}
+use Rattle.newest.specs.Walks.{asOption}
+use Rattle.newest.proofs.walk.Statement.{statement}
+use Rattle.newest.proofs.walk.Tie as tie
 
 -- what a station does to what the walk carries
 abbrev turn : List ℕ → ℕ → ℕ → ℕ → Option Walked → Option Walked

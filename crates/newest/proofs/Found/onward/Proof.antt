@@ -1,8 +1,8 @@
 use mathlib.Core.Path.{_≡_, refl, sym, ap, _∙_}
 use borrow.Author.Needs.{needs}
-use Rattle.table.proofs.Search.{copy-range, copy-fits}
-use Rattle.table.proofs.newest.Found.onward.Statement.{statement}
-use Rattle.table.proofs.newest.Found.onward.Tie as tie
+use Rattle.table.proofs.ItemCopies.{copy-range, copy-fits}
+use Rattle.newest.proofs.Found.onward.Statement.{statement}
+use Rattle.newest.proofs.Found.onward.Tie as tie
 
 address-requires : tie.Need-address-requires
 address-requires c κs = let pre = c .before .pre in copy-range (pre .0) (pre .1)

@@ -1,6 +1,6 @@
-use Rattle.table.proofs.Search.{copy-range, copy-fits}
-use Rattle.table.proofs.newest.config_found.Statement.{statement}
-use Rattle.table.proofs.newest.config_found.Tie as tie
+use Rattle.table.proofs.ItemCopies.{copy-range, copy-fits}
+use Rattle.newest.proofs.config_found.Statement.{statement}
+use Rattle.newest.proofs.config_found.Tie as tie
 
 address-requires : tie.Need-address-requires
 address-requires c κs = let pre = c .before .pre in copy-range (pre .0) (pre .1)
