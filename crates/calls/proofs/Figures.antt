@@ -5,11 +5,10 @@ use mathlib.Core.List.{List}
 use Prim.Native.Nat.{ℕ}
 use Rattle.quorum.specs.Configurations.{placeFigure, holdsWrite}
 use Rattle.quorum.specs.declared.Place.{Place}
-use Rattle.layout.specs.Fields.{stations, roundOf}
+use Rattle.layout.specs.Fields.{stations, roundOf, copiesOf}
 use Rattle.layout.specs.Newest.{heardPlace, hears}
 use Rattle.layout.specs.Rounds.{withPoll}
 use Rattle.layout.specs.View.{view, onBus}
-use Rattle.table.specs.ItemCopies.{copiesOf}
 use Rattle.newest.specs.declared.Newest.{Newest}
 use Rattle.rounds.specs.Heard.{HasFound}
 use Rattle.rounds.proofs.Hearing.{config-is}

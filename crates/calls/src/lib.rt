@@ -1,4 +1,4 @@
-// The other calls but lay, on a sound table: each asks for its number, and if that is 0 does what it is for.
+// Poll, put, commit, link, reach and diagnose, on a sound table: each asks for its number, and if that is 0 does what it is for.
 ghost use mathlib.Core.Path.{_≡_};
 ghost use mathlib.Core.Bool.{true};
 ghost use Prim.Native.Nat.{_<_};

@@ -16,7 +16,7 @@ use Rattle.rules.specs.Figures.{figuresOf, closing, diagnosis}
 use Rattle.rules.specs.Reply.{answer, replyOf, reply}
 use Rattle.rules.proofs.Judged.{a-round, sound-number}
 use Rattle.rules.specs.declared.Reply.{Reply}
-use Rattle.closing.specs.Closing.{OpenRound, HeardAt, ValueAt, OfKind, closingNumber, closingReply}
+use Rattle.closing.specs.Closing.{OpenRound, HeardAt, VersionAt, OfKind, closingNumber, closingReply}
 
 -- ---- the reply, by the tests
 abbrev pub refusal : ℕ → Reply
@@ -86,7 +86,7 @@ module _ (t : List ℕ) {k : Kind} (e : OfKind t k) where
     closes-with p q r = (λ i. record { number = 0; first = p i; second = q i; third = r i }) ∙ rw (z, e)
 
 -- ---- what is read from the newest copies is what the round has found
-pub value-is : (t : List ℕ) (b : ℕ) {x : ℕ} → ValueAt t b → x ≡ copyFrom t b .value → x ≡ foundByVersion (view t) .value
+pub value-is : (t : List ℕ) (b : ℕ) {x : ℕ} → VersionAt t b → x ≡ copyFrom t b .value → x ≡ foundByVersion (view t) .value
 value-is t b h e = rw (h .0) e
 
 pub config-is : {t : List ℕ} {g : ℕ} {c : List ℕ} → HeardAt t g → c ≡ copyFrom t g .config → c ≡ foundByGeneration (view t) .config

@@ -14,7 +14,7 @@ use Rattle.layout.proofs.OneWalk.{version-below, generation-below, version-foun
 use Rattle.newest.specs.declared.Newest.{Newest}
 use Rattle.rounds.specs.Heard.{OwnFound}
 use Rattle.rounds.proofs.Hearing.{own-fits, own-copy}
-use Rattle.closing.specs.Closing.{OpenRound, HeardAt, ValueAt}
+use Rattle.closing.specs.Closing.{OpenRound, HeardAt, VersionAt}
 
 module _ (t : List ℕ) {newest : Newest} (e : OwnFound t newest) where
   -- the stations found are among the n
@@ -28,7 +28,7 @@ module _ (t : List ℕ) {newest : Newest} (e : OwnFound t newest) where
 
   -- where their copies start
   module _ (o : OpenRound t) where
-    pub value-at : {a : ℕ} → a ≡ address (stations t) (roundOf t .item) (newest .«by_version») → ValueAt t a
+    pub value-at : {a : ℕ} → a ≡ address (stations t) (roundOf t .item) (newest .«by_version») → VersionAt t a
     value-at q = (version-found _ _ _ e ∙ own-copy t (o .0) version-there q, own-fits t (o .0) version-there q)
 
     pub heard-at : {a : ℕ} → a ≡ address (stations t) (roundOf t .item) (newest .«by_generation») → heard (view t) ≡ true → HeardAt t a

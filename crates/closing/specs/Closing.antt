@@ -28,8 +28,8 @@ pub record HeardAt (t : List ℕ) (g : ℕ) : Type 0 where
   pub fits : g + copySize ≤ length t
 
 -- what it has found by version stands from byte b on
-abbrev pub ValueAt : List ℕ → ℕ → Type 0
-ValueAt t b = (foundByVersion (view t) ≡ copyFrom t b) × (b + copySize ≤ length t)
+abbrev pub VersionAt : List ℕ → ℕ → Type 0
+VersionAt t b = (foundByVersion (view t) ≡ copyFrom t b) × (b + copySize ≤ length t)
 
 -- the counters that the round has found
 abbrev pub VersionFound : List ℕ → Version → Type 0

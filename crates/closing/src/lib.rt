@@ -4,7 +4,7 @@ ghost use mathlib.Core.Path.{_≡_};
 ghost use Rattle.layout.specs.Fields.{write, change};
 ghost use Rattle.rules.specs.Calls.{commit, diagnose};
 ghost use Rattle.rules.specs.Reply.{reply};
-ghost use Rattle.closing.specs.Closing.{OpenRound, HeardAt, VersionFound, GenerationFound, ValueAt, OfKind, closingNumber, closingReply};
+ghost use Rattle.closing.specs.Closing.{OpenRound, HeardAt, VersionFound, GenerationFound, VersionAt, OfKind, closingNumber, closingReply};
 use layout::READ;
 use layout::WRITE;
 use newest::Found;
@@ -79,7 +79,8 @@ fn diagnosis(number: u64, station: u64, place: u64) -> Reply
     }
 }
 
-// Commit's number in a heard round. The counters found are handed on, and where the copy starts that gives the configuration.
+// Commit's number in a heard round, for commit and for diagnose. The counters found are handed on, and where the copy starts that gives the configuration:
+// as numbers, since the compiler does not join this function to both, and a struct would go through memory.
 fn closing_number(t: &[u8], version: Version, generation: Generation, g: usize) -> u64
     requires { ⌜ HeardAt (now t) g × VersionFound (now t) version × GenerationFound (now t) generation ⌝ }
     ensures { λ r. ⌜ r ≡ closingNumber (now (t .entry)) ⌝ }
@@ -96,7 +97,7 @@ fn closing_number(t: &[u8], version: Version, generation: Generation, g: usize) 
     change_number(t, generation, g)
 }
 
-// Of a write: its data puts hold a write set of the configuration found.
+// Of a write: its version can be raised, and its data puts hold a write set of the configuration found.
 fn write_number(t: &[u8], version: Version, g: usize) -> u64
     requires { ⌜ HeardAt (now t) g × VersionFound (now t) version × OfKind (now t) write ⌝ }
     ensures { λ r. ⌜ r ≡ closingNumber (now (t .entry)) ⌝ }
@@ -110,7 +111,7 @@ fn write_number(t: &[u8], version: Version, g: usize) -> u64
     DONE
 }
 
-// Of a change: its data puts hold a write set of the target, and its configuration puts one of the configuration found.
+// Of a change: its generation can be raised, its data puts hold a write set of the target, and its configuration puts one of the configuration found.
 fn change_number(t: &[u8], generation: Generation, g: usize) -> u64
     requires { ⌜ HeardAt (now t) g × GenerationFound (now t) generation × OfKind (now t) change ⌝ }
     ensures { λ r. ⌜ r ≡ closingNumber (now (t .entry)) ⌝ }
@@ -129,7 +130,7 @@ fn change_number(t: &[u8], generation: Generation, g: usize) -> u64
 
 // The reply to a commit of a heard round whose number is 0; the newest copy by version starts at b.
 fn done_reply(t: &[u8], version: Version, generation: Generation, b: usize) -> Reply
-    requires { ⌜ OpenRound (now t) × VersionFound (now t) version × GenerationFound (now t) generation × ValueAt (now t) b × (closingNumber (now t) ≡ 0) ⌝ }
+    requires { ⌜ OpenRound (now t) × VersionFound (now t) version × GenerationFound (now t) generation × VersionAt (now t) b × (closingNumber (now t) ≡ 0) ⌝ }
     ensures { λ r. ⌜ r ≡ closingReply (now (t .entry)) ⌝ }
 {
     let k = kind(t);

@@ -71,7 +71,7 @@ roundOf t =
       target = part t targetAt configSize;
     }
 
--- ---- the copy that starts at a place, and the copy of an item at a station
+-- ---- the copy that starts at a place, and the copy of an item at one of n stations, and at one of the table's own
 unfoldable pub copyFrom : List ℕ → ℕ → Copy
 copyFrom t at =
     record {
@@ -81,5 +81,8 @@ copyFrom t at =
       config = part t (at + copyConfigAt) configSize;
     }
 
+abbrev pub copiesOf : List ℕ → ℕ → ℕ → ℕ → Copy
+copiesOf t n i s = copyFrom t (address n i s)
+
 abbrev pub copyOf : List ℕ → ℕ → ℕ → Copy
-copyOf t i s = copyFrom t (address (stations t) i s)
+copyOf t i s = copiesOf t (stations t) i s

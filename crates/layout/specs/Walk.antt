@@ -1,5 +1,6 @@
--- One walk over the copies at the stations of a set, in place of the two searches of Newest.antt. Document 02, 2026-07: "let one walk carry the newest of both, by
--- generation and by version. Show that for any polled set it finds what two separate searches find, the lowest station on equal numbers in each."
+-- One walk over the copies at the stations of a set, which finds what the two searches of Newest.antt find. The rules speak of the searches; the code
+-- walks once. Document 02, 2026-07: "let one walk carry the newest of both, by generation and by version. Show that for any polled set it finds what two
+-- separate searches find, the lowest station on equal numbers in each."
 use mathlib.Core.Path.{_≡_}
 use mathlib.Core.Bool.{false, cond}
 use mathlib.Core.Logic.{_↔_}

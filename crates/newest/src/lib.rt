@@ -2,9 +2,10 @@
 ghost use mathlib.Core.Path.{_≡_};
 ghost use mathlib.Core.Bool.{cond};
 ghost use Prim.Native.Nat.{_<_};
+ghost use Rattle.layout.specs.Fields.{copiesOf};
 ghost use Rattle.layout.specs.Newest.{versionStation, generationStation};
 ghost use Rattle.layout.specs.Walk.{onward, walk, walkedVersion, walkedGeneration};
-ghost use Rattle.table.specs.ItemCopies.{InTable, copiesOf};
+ghost use Rattle.table.specs.ItemCopies.{InTable};
 ghost use Rattle.newest.specs.Walks.{asWalked, asOption};
 use table::copy::Generation;
 use table::copy::Version;
@@ -28,7 +29,7 @@ pub enum Found {
 }
 
 impl Found {
-    // The walk comes to station s.
+    // The walk comes to station s: by each counter it takes the place of the newest so far if its own is greater.
     pub fn onward(self, t: &[u8], n: usize, item: usize, s: usize) -> Newest
         requires { ⌜ InTable (now t) n item × (s < n) ⌝ }
         ensures { λ r. ⌜ asWalked r ≡ onward (copiesOf (now (t .entry)) n item) s (asOption self) ⌝ }
@@ -53,17 +54,17 @@ impl Found {
     }
 }
 
-// The station that the walk has come to, if its copy is newer; else the one before it.
-fn newer(is_newer: bool, s: usize, before: usize) -> usize
-    ensures { λ r. ⌜ r ≡ cond «is_newer» s before ⌝ }
+// The station that the walk has come to, if its copy is newer; else the newest so far.
+fn newer(is_newer: bool, s: usize, best: usize) -> usize
+    ensures { λ r. ⌜ r ≡ cond «is_newer» s best ⌝ }
 {
     if is_newer {
         return s;
     }
-    before
+    best
 }
 
-// The walk over the stations of the set, the lowest first: what the two searches would find, each by itself.
+// The walk over the stations of the set below n, the lowest first: what the two searches would find, each by itself.
 pub fn walk(t: &[u8], n: usize, item: usize, set: u16) -> Found
     requires { ⌜ InTable (now t) n item ⌝ }
     ensures { λ r. ⌜ asOption r ≡ walk (copiesOf (now (t .entry)) n item) set n ⌝ }

@@ -1,4 +1,5 @@
-// The number of each call's reply but commit's, on a sound table: document 01's tests in its order. Nothing is changed here.
+// The numbers of the calls' replies, but for commit's and plan's 15: document 01's tests in its order. On a sound table, but for lay's. Nothing is changed
+// here.
 ghost use mathlib.Core.Path.{_≡_};
 ghost use mathlib.Core.Bool.{true, false, _||_};
 ghost use lib.Dec.{eqb};

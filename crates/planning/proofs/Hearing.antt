@@ -6,11 +6,10 @@ use mathlib.Core.Option.{Option, some}
 use Prim.Native.Nat.{ℕ, _+_}
 use native.Mathlib.Omega.{arith}
 use Rattle.quorum.specs.Sets.{within, join, lowest}
-use Rattle.layout.specs.Fields.{Copy}
-use Rattle.layout.specs.Newest.{byGeneration, hears}
+use Rattle.layout.specs.Fields.{Copy, copiesOf}
+use Rattle.layout.specs.Newest.{hears}
 use Rattle.layout.specs.Walk.{Walked, onward, walk}
-use Rattle.layout.proofs.OneWalk.{walk-joined, generation-below, generation-found}
-use Rattle.table.specs.ItemCopies.{copiesOf}
+use Rattle.layout.proofs.OneWalk.{walk-joined}
 use Rattle.newest.specs.declared.Newest.{Newest}
 use Rattle.rounds.specs.Heard.{HasFound}
 use Rattle.plan.specs.Starts.{rising, start}
@@ -33,12 +32,8 @@ module _ (t : List ℕ) (n item : ℕ) {on count rest taken : ℕ} (none : NoneU
   unfolding pollsNeeded
   says-after p e heard =
       let copies = copiesOf t n item in
-      let polls = first-passes none p heard in (
-        omega arith,
-        sym polls,
-        generation-below copies taken n e,
-        ap (λ k. byGeneration copies (start (rising on) k) n) polls ∙ ap (λ set. byGeneration copies set n) (sym (is-start p)) ∙ generation-found copies taken n e,
-      )
+      let polls = first-passes none p heard in
+      (omega arith, sym polls, ap (λ k. walk copies (start (rising on) k) n) polls ∙ ap (λ set. walk copies set n) (sym (is-start p)) ∙ e)
 
   pub says-never : Position on count rest taken → rest ≡ 0 → Says t n item on Never
   unfolding pollsNeeded

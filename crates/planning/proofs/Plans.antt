@@ -8,9 +8,10 @@ use Rattle.basics.proofs.Tests.{either}
 use Rattle.quorum.specs.Sets.{within}
 use Rattle.quorum.specs.Configurations.{placeFigure, isPlace, holdsWrite}
 use Rattle.quorum.proofs.Promise.{promise}
-use Rattle.layout.specs.Fields.{stations, items}
+use Rattle.layout.specs.Fields.{stations, items, copiesOf}
 use Rattle.layout.specs.Soundness.{sound}
 use Rattle.layout.specs.View.{State, view, onBus}
+use Rattle.layout.proofs.OneWalk.{generation-found}
 use Rattle.layout.proofs.Soundness.{is-sound}
 use Rattle.plan.specs.Starts.{rising, firstStart}
 use Rattle.plan.specs.Plan.{foundByStart, putsNeeded, plannedPolls}
@@ -20,7 +21,6 @@ use Rattle.rules.specs.Figures.{figuresOf}
 use Rattle.rules.specs.Reply.{answer}
 use Rattle.rules.specs.declared.Reply.{Reply}
 use Rattle.rules.proofs.Steps.{on-bus}
-use Rattle.table.specs.ItemCopies.{copiesOf}
 use Rattle.newest.specs.declared.Newest.{Newest}
 use Rattle.planning.specs.Planning.{Says}
 use Rattle.planning.specs.declared.FirstHeard.the-variants.{After, Never}
@@ -59,7 +59,7 @@ module _ (t : List ℕ) (s : sound t ≡ true) (i : ℕ) (l : i < items t) {n on
     heard = let z = rw (a, b) at (e .1) in numbered true (sym (promise .figure-place _ .0 (rw z at (e .0))))
 
     found : config ≡ foundByStart (copiesOf t n i) on n .config
-    found = c ∙ ap (λ x. x .config) (sym (e .3))
+    found = c ∙ ap (λ x. x .config) (sym (generation-found _ _ _ (e .2)))
 
     puts-found : puts ≡ placeFigure (putsNeeded (copiesOf t n i) on n)
     unfolding putsNeeded

@@ -27,7 +27,7 @@ pub enum FirstHeard {
     Never,
 }
 
-// The first start of the rising order that is heard.
+// The first start of the rising order that is heard: the walk over the stations on the bus, which asks at each.
 fn first_heard(t: &[u8], n: usize, item: usize, on: u16) -> FirstHeard
     requires { ⌜ InTable (now t) n item × (within n on ≡ true) ⌝ }
     ensures { λ r. ⌜ Says (now (t .entry)) n item on r ⌝ }

@@ -7,14 +7,14 @@ use Prim.Native.Nat.{ℕ, _+_, _≤_, _<_}
 use native.Mathlib.Omega.{arith}
 use lib.ListN.{length}
 use Rattle.layout.specs.Layout.{copySize, address}
-use Rattle.layout.specs.Fields.{stations, items, roundOf, copyFrom}
+use Rattle.layout.specs.Fields.{stations, items, roundOf, copyFrom, copiesOf}
 use Rattle.layout.specs.Soundness.{sound}
 use Rattle.quorum.specs.Configurations.{firstRead, holdsRead}
 use Rattle.quorum.specs.declared.Place.{Place}
 use Rattle.layout.specs.Newest.{byGeneration, heardPlace, hears}
 use Rattle.layout.specs.View.{view, own, readPlace, heard}
 use Rattle.layout.specs.Walk.{Walked, walk}
-use Rattle.table.specs.ItemCopies.{InTable, copiesOf}
+use Rattle.table.specs.ItemCopies.{InTable}
 use Rattle.newest.specs.declared.Newest.{Newest}
 use Rattle.layout.proofs.OneWalk.{generation-found}
 use Rattle.table.proofs.ItemCopies.{copy-fits}

@@ -3,9 +3,9 @@ use mathlib.Core.Path.{_≡_}
 use mathlib.Core.List.{List}
 use mathlib.Core.Option.{Option, some}
 use Prim.Native.Nat.{ℕ}
+use Rattle.layout.specs.Fields.{copiesOf}
 use Rattle.layout.specs.View.{view, own}
 use Rattle.layout.specs.Walk.{Walked, walk}
-use Rattle.table.specs.ItemCopies.{copiesOf}
 use Rattle.newest.specs.Walks.{asWalked}
 use Rattle.newest.specs.declared.Newest.{Newest}
 

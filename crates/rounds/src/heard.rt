@@ -1,7 +1,8 @@
 // Whether a round that has polled some stations is heard, by what the walk over their copies has found.
 ghost use mathlib.Core.Path.{_≡_};
+ghost use Rattle.layout.specs.Fields.{copiesOf};
 ghost use Rattle.layout.specs.Newest.{heardPlace, hears};
-ghost use Rattle.table.specs.ItemCopies.{InTable, copiesOf};
+ghost use Rattle.table.specs.ItemCopies.{InTable};
 ghost use Rattle.rounds.specs.Heard.{HasFound};
 use newest::Found;
 use newest::Newest;
@@ -17,7 +18,7 @@ pub fn read_place(t: &[u8], n: usize, item: usize, polled: u16, newest: Newest) 
     sets::first_read_place(config_found(t, n, item, newest), polled)
 }
 
-// Whether there is a place, where it does not matter which: `holds_read_set` has no branch.
+// Whether there is such a place, where it does not matter which: `holds_read_set` tests without a branch.
 pub fn is_heard(t: &[u8], n: usize, item: usize, polled: u16, newest: Newest) -> bool
     requires { ⌜ InTable (now t) n item × HasFound (now t) n item polled newest ⌝ }
     ensures { λ r. ⌜ r ≡ hears (copiesOf (now (t .entry)) n item) polled n ⌝ }

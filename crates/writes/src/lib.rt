@@ -9,14 +9,13 @@ ghost use Rattle.layout.specs.Layout.{headSize, copiesAt, copySize, tableLength
 ghost use Rattle.layout.specs.Fields.{newCopy};
 ghost use Rattle.table.specs.ItemCopies.{InTable};
 ghost use Rattle.layout.specs.Updates.{putData, putConfig, copyBytes, repeated, laidHead, laid, putCopies, closed};
-ghost use Rattle.rounds.specs.Round.{asRound, roundIn};
+ghost use Rattle.rounds.specs.Round.{asRound};
 use layout::COPIES_AT;
 use layout::COPY_SIZE;
 use layout::HEAD_SIZE;
 use layout::NO_ROUND;
 use layout::OFF_AT;
 use layout::STATIONS_AT;
-use layout::TARGET_AT;
 use quorum::CONFIG_SIZE;
 use rounds::round::Round;
 use table::copy::Generation;
@@ -64,11 +63,11 @@ fn put_each(
     version: Version,
     generation: Generation,
 )
-    requires { ⌜ InTable (now t) n (round .item) × (round ≡ roundIn (now t)) ⌝ }
+    requires { ⌜ InTable (now t) n (round .item) ⌝ }
     ensures { λ _. ⌜ now (t .exit) ≡ putCopies (now (t .entry)) n (asRound round) (newCopy (version .0) value (generation .0) (round .target)) n ⌝ }
 {
     let i = round.item;
-    let target = config_bytes_at(t, TARGET_AT);
+    let target = round.target;
     let mut rest = sets::united(round.data_puts, round.config_puts);
     while rest != 0 {
         let s = sets::lowest(rest);
@@ -97,7 +96,7 @@ pub fn finish(
     version: Version,
     generation: Generation,
 )
-    requires { ⌜ InTable (now t) n (round .item) × (round ≡ roundIn (now t)) ⌝ }
+    requires { ⌜ InTable (now t) n (round .item) ⌝ }
     ensures { λ _. ⌜ now (t .exit) ≡ closed (putCopies (now (t .entry)) n (asRound round) (newCopy (version .0) value (generation .0) (round .target)) n) ⌝ }
 {
     put_each(t, n, round, value, version, generation);

@@ -62,7 +62,7 @@ unfolding view
 finish-requires c κs =
     let counted = c .before .before in
     let s = replied (reply counted) .pre in
-    (rw (counted .stations .ensures, c .«of» .ensures) (items-in-table _ s _ (is-sound _ s .item)), c .«of» .ensures)
+    rw (counted .stations .ensures, c .«of» .ensures) (items-in-table _ s _ (is-sound _ s .item))
 
 same-length-3 : tie.Need-same-length-3
 same-length-3 c = search needs

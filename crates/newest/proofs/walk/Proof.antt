@@ -3,11 +3,11 @@ use mathlib.Core.List.{List}
 use mathlib.Core.Option.{Option, none, some}
 use Prim.Native.Nat.{ℕ}
 use borrow.Author.Needs.{needs}
+use Rattle.layout.specs.Fields.{copiesOf}
 use Rattle.layout.specs.Newest.{versionStation, generationStation}
 use Rattle.layout.specs.Walk.{Walked, onward, walk, walkedVersion, walkedGeneration}
 use Rattle.layout.proofs.Along.{along, Left, left-start, left-done, left-past, left-falls, left-turn}
 use Rattle.layout.proofs.OneWalk.{one-walk, walk-along}
-use Rattle.table.specs.ItemCopies.{copiesOf}
 use Rattle.newest.specs.Walks.{asOption}
 use Rattle.newest.proofs.walk.Statement.{statement}
 use Rattle.newest.proofs.walk.Tie as tie

@@ -2,11 +2,11 @@ use mathlib.Core.Path.{_≡_, sym, _∙_}
 use Prim.Native.Nat.{_+_}
 use native.Mathlib.Omega.{arith}
 use borrow.Author.Needs.{needs}
+use Rattle.layout.specs.Fields.{copiesOf}
 use Rattle.layout.specs.Newest.{hears}
 use Rattle.layout.specs.Walk.{walk}
 use Rattle.layout.proofs.Along.{left-less}
 use Rattle.layout.proofs.OneWalk.{walk-empty}
-use Rattle.table.specs.ItemCopies.{copiesOf}
 use Rattle.newest.specs.Walks.{asOption}
 use Rattle.rounds.specs.Heard.{HasFound}
 use Rattle.planning.proofs.Walking.{Position, position-start, count-fits, next-below, turn, NoneUpTo, none-yet, none-more}

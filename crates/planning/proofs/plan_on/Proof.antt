@@ -4,6 +4,7 @@ use native.Mathlib.Omega.{arith}
 use borrow.Author.Needs.{needs}
 use Rattle.layout.specs.Fields.{items}
 use Rattle.layout.specs.View.{view}
+use Rattle.layout.proofs.OneWalk.{generation-below}
 use Rattle.layout.proofs.Soundness.{sound-head}
 use Rattle.table.specs.ItemCopies.{InTable}
 use Rattle.rounds.proofs.Hearing.{copies-in-table}
@@ -85,7 +86,7 @@ returns-2 c =
     (c .plain2 .ensures) .0
 
 config-found-requires : tie.Need-config-found-requires
-config-found-requires c κs = let told = c .before in (in-table (at-bus told), says told .2)
+config-found-requires c κs = let told = c .before in (in-table (at-bus told), generation-below _ _ _ (says told .2))
 
 puts-needed-requires : tie.Need-puts-needed-requires
 puts-needed-requires c κs = search needs

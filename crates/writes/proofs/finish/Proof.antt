@@ -11,7 +11,7 @@ set-round-requires : tie.Need-set-round-requires
 set-round-requires c κs =
     let stored = c .before .before .before in
     let start = stored .before .before .before in
-    rw (stored .put-each .kept .0) (head-fits (start .args .t .now) (start .args .n) (start .args .round .item) (start .pre .0))
+    rw (stored .put-each .kept .0) (head-fits (start .args .t .now) (start .args .n) (start .args .round .item) (start .pre))
 
 same-length : tie.Need-same-length
 same-length c = search needs

@@ -9,7 +9,6 @@ use Rattle.layout.specs.Layout.{copySize}
 use Rattle.layout.specs.Fields.{newCopy}
 use Rattle.layout.specs.Updates.{putCopies}
 use Rattle.layout.proofs.Along.{Left, left-start, left-done, left-past, left-falls, left-turn}
-use Rattle.layout.proofs.Fields.{address-head}
 use Rattle.table.proofs.ItemCopies.{copy-range, copy-fits}
 use Rattle.rounds.specs.Round.{asRound}
 use Rattle.writes.proofs.Writes.{put-station, puts-along, put-turn}
@@ -25,27 +24,17 @@ Inv-loop t₀ n round value version generation i target rest₀ t rest =
 abbrev μ-loop : tie.MeasureT-loop
 μ-loop t₀ n round value version generation i target rest₀ t rest = rest
 
-config-bytes-at-requires : tie.Need-config-bytes-at-requires Inv-loop μ-loop
-config-bytes-at-requires c κs =
-    let start = c .before .before in
-    let h = start .pre .0 .2 in omega (arith, address-head (start .args .n) (start .args .round .item) (start .args .n))
-
 united-requires : tie.Need-united-requires Inv-loop μ-loop
 united-requires c κs = search needs
 
--- from the target's bytes back to the start
-abbrev called : tie.After-config-bytes-at Inv-loop μ-loop → tie.Start Inv-loop μ-loop
-called c = c .before .before .before
-
 -- from a turn back to the start
 abbrev began : tie.At-loop Inv-loop μ-loop → tie.Start Inv-loop μ-loop
-began c = called (c .before .before)
+began c = c .before .before .before .before
 
 loop-holds : tie.Need-loop-holds Inv-loop μ-loop
 loop-holds c =
-    let target-read = c .before in
-    let start = called target-read in (
-      target-read .config-bytes-at .ensures ∙ ap (λ r. r .target) (sym (start .pre .1)),
+    let start = c .before .before .before in (
+      refl,
       refl,
       record {
         comes-to = rw (c .united .ensures) (puts-along (start .args .t .now) (start .args .n) (asRound (start .args .round)) _ (start .args .n));
@@ -63,11 +52,11 @@ returns : tie.Need-returns Inv-loop μ-loop
 returns c = left-past (c .before .before .before .loop .inv .2) (c .before .lowest .ensures) (c .if1 .taken)
 
 address-requires : tie.Need-address-requires Inv-loop μ-loop
-address-requires c κs = copy-range (began (c .before .before .before) .pre .0) (c .if1 .left)
+address-requires c κs = copy-range (began (c .before .before .before) .pre) (c .if1 .left)
 
 -- the copy of the turn's station is there
 fits : (c : tie.After-address Inv-loop μ-loop) → c .address .result + copySize ≤ length (began (c .before .before .before .before) .args .t .now)
-fits c = copy-fits (began (c .before .before .before .before) .pre .0) (c .before .if1 .left) (c .address .ensures)
+fits c = copy-fits (began (c .before .before .before .before) .pre) (c .before .if1 .left) (c .address .ensures)
 
 is-member-requires : tie.Need-is-member-requires Inv-loop μ-loop
 is-member-requires c κs = search needs
@@ -130,7 +119,6 @@ put-each-spec =
     (tie.spec
     Inv-loop
     μ-loop
-    config-bytes-at-requires
     united-requires
     loop-holds
     lowest-requires
