@@ -191,6 +191,35 @@ static inline const uint8_t *newest(const uint8_t *copies, uint64_t stations, si
     return best;
 }
 
+/* The newest copies by version and by generation, found in one walk. */
+typedef struct {
+    const uint8_t *data;
+    const uint8_t *found;
+    uint64_t version;
+    uint64_t generation;
+} newest_copies;
+
+static inline newest_copies newest_both(const uint8_t *copies, uint64_t stations)
+{
+    const uint8_t *first = copies + COPY * __builtin_ctzll(stations);
+    newest_copies best = {first, first, get_word(first + VERSION), get_word(first + GENERATION)};
+
+    for (stations &= stations - 1; stations != 0; stations &= stations - 1) {
+        const uint8_t *copy = copies + COPY * __builtin_ctzll(stations);
+        uint64_t version = get_word(copy + VERSION);
+        uint64_t generation = get_word(copy + GENERATION);
+        if (version > best.version) {
+            best.version = version;
+            best.data = copy;
+        }
+        if (generation > best.generation) {
+            best.generation = generation;
+            best.found = copy;
+        }
+    }
+    return best;
+}
+
 /* The polled copy with the configuration found; null if the polled stations are unheard. */
 static inline const uint8_t *heard(const uint8_t *copies, uint64_t polled)
 {
@@ -319,12 +348,12 @@ ospreyscreen_reply opt_poll(uint8_t *table, size_t len, uint64_t station)
 
 /* Whether the counter that a put of the sort is to raise is at its end. A data
  * put of a change raises none. */
-static inline bool put_spent(const head *h, uint64_t sort, const uint8_t *copies, const uint8_t *found)
+static inline bool put_spent(const head *h, uint64_t sort, const newest_copies *best)
 {
     if (h->round == OSPREYSCREEN_ROUND_WRITE) {
-        return get_word(newest(copies, h->polled, VERSION) + VERSION) == UINT64_MAX;
+        return best->version == UINT64_MAX;
     }
-    return sort == OSPREYSCREEN_PUT_CONFIGURATION && get_word(found + GENERATION) == UINT64_MAX;
+    return sort == OSPREYSCREEN_PUT_CONFIGURATION && best->generation == UINT64_MAX;
 }
 
 ospreyscreen_reply opt_put(uint8_t *table, size_t len, uint64_t station, uint64_t sort)
@@ -343,16 +372,18 @@ ospreyscreen_reply opt_put(uint8_t *table, size_t len, uint64_t station, uint64_
     if ((h.off >> station & 1) != 0) {
         return refused(OSPREYSCREEN_OFF_THE_BUS);
     }
-    const uint8_t *copies = item_copies(table, &h, h.item);
-    const uint8_t *found = heard(copies, h.polled);
-    if (found == NULL) {
+    if (h.polled == 0) {
+        return refused(OSPREYSCREEN_UNHEARD);
+    }
+    newest_copies best = newest_both(item_copies(table, &h, h.item), h.polled);
+    if (!holds(h.polled, get_configuration(best.found + CONFIGURATION).read)) {
         return refused(OSPREYSCREEN_UNHEARD);
     }
     /* A read takes no put, a write data puts, a change both sorts. */
     if (h.round <= sort) {
         return refused(OSPREYSCREEN_WRONG_PUT);
     }
-    if (put_spent(&h, sort, copies, found)) {
+    if (put_spent(&h, sort, &best)) {
         return refused(OSPREYSCREEN_SPENT);
     }
     uint64_t puts = sort == OSPREYSCREEN_PUT_DATA ? h.data_puts : h.configuration_puts;
@@ -394,15 +425,15 @@ static inline bool enough_puts(const head *h, configuration found)
 }
 
 /* The number of a commit of a heard round, by the newest copies. */
-static inline uint64_t closing_number(const head *h, const uint8_t *data, const uint8_t *found)
+static inline uint64_t closing_number(const head *h, const newest_copies *best)
 {
-    bool last = (h->round == OSPREYSCREEN_ROUND_WRITE && get_word(data + VERSION) == UINT64_MAX) ||
-                (h->round == OSPREYSCREEN_ROUND_CHANGE && get_word(found + GENERATION) == UINT64_MAX);
+    bool last = (h->round == OSPREYSCREEN_ROUND_WRITE && best->version == UINT64_MAX) ||
+                (h->round == OSPREYSCREEN_ROUND_CHANGE && best->generation == UINT64_MAX);
     if (last) {
         return OSPREYSCREEN_SPENT;
     }
-    return enough_puts(h, get_configuration(found + CONFIGURATION)) ? OSPREYSCREEN_DONE
-                                                                    : OSPREYSCREEN_SHORT;
+    return enough_puts(h, get_configuration(best->found + CONFIGURATION)) ? OSPREYSCREEN_DONE
+                                                                          : OSPREYSCREEN_SHORT;
 }
 
 ospreyscreen_reply opt_commit(uint8_t *table, size_t len)
@@ -415,21 +446,23 @@ ospreyscreen_reply opt_commit(uint8_t *table, size_t len)
     if (h.round == OSPREYSCREEN_ROUND_NONE) {
         return refused(OSPREYSCREEN_IDLE);
     }
-    uint8_t *copies = item_copies(table, &h, h.item);
-    const uint8_t *found = heard(copies, h.polled);
-    if (found == NULL) {
+    if (h.polled == 0) {
         return refused(OSPREYSCREEN_UNHEARD);
     }
-    const uint8_t *data = newest(copies, h.polled, VERSION);
-    uint64_t number = closing_number(&h, data, found);
+    uint8_t *copies = item_copies(table, &h, h.item);
+    newest_copies best = newest_both(copies, h.polled);
+    if (!holds(h.polled, get_configuration(best.found + CONFIGURATION).read)) {
+        return refused(OSPREYSCREEN_UNHEARD);
+    }
+    uint64_t number = closing_number(&h, &best);
     if (number != OSPREYSCREEN_DONE) {
         return refused(number);
     }
     bool write = h.round == OSPREYSCREEN_ROUND_WRITE;
     bool change = h.round == OSPREYSCREEN_ROUND_CHANGE;
-    uint64_t version = get_word(data + VERSION) + write;
-    uint64_t value = write ? h.value : get_word(data + VALUE);
-    uint64_t generation = get_word(found + GENERATION) + change;
+    uint64_t version = best.version + write;
+    uint64_t value = write ? h.value : get_word(best.data + VALUE);
+    uint64_t generation = best.generation + change;
     store_data(copies, h.data_puts, version, value);
     store_configuration(copies, h.configuration_puts, generation, h.target);
     close_round(table);
@@ -504,11 +537,10 @@ ospreyscreen_reply opt_diagnose(const uint8_t *table, size_t len)
         return done(OSPREYSCREEN_UNHEARD, 0, 0);
     }
     const uint8_t *copies = table + item_start(&h, h.item);
-    const uint8_t *data = newest(copies, h.polled, VERSION);
-    const uint8_t *found = newest(copies, h.polled, GENERATION);
-    uint64_t place = first_held(h.polled, get_configuration(found + CONFIGURATION).read);
-    uint64_t number = place == 0 ? OSPREYSCREEN_UNHEARD : closing_number(&h, data, found);
-    return done(number, 1 + (uint64_t)(data - copies) / COPY, place);
+    newest_copies best = newest_both(copies, h.polled);
+    uint64_t place = first_held(h.polled, get_configuration(best.found + CONFIGURATION).read);
+    uint64_t number = place == 0 ? OSPREYSCREEN_UNHEARD : closing_number(&h, &best);
+    return done(number, 1 + (uint64_t)(best.data - copies) / COPY, place);
 }
 
 /* The bit above all stations: no set is held. */
