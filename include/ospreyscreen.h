@@ -41,7 +41,7 @@ extern "C" {
 /* The version of this header and of the library that belongs to it. */
 #define OSPREYSCREEN_VERSION_MAJOR 0
 #define OSPREYSCREEN_VERSION_MINOR 7
-#define OSPREYSCREEN_VERSION_PATCH 0
+#define OSPREYSCREEN_VERSION_PATCH 1
 #define OSPREYSCREEN_VERSION_STRING                                                                \
     OSPREYSCREEN_DOTTED_(OSPREYSCREEN_VERSION_MAJOR, OSPREYSCREEN_VERSION_MINOR,                   \
                          OSPREYSCREEN_VERSION_PATCH)
