@@ -1,8 +1,7 @@
 -- What commit and diagnose hand on of the copies that the open round has found.
-use mathlib.Core.Path.{_≡_, sym, ap, _∙_}
-use mathlib.Core.Bool.{true, false}
+use mathlib.Core.Path.{_≡_, ap, _∙_}
+use mathlib.Core.Bool.{true}
 use mathlib.Core.List.{List}
-use mathlib.Core.Option.{none}
 use Prim.Native.Nat.{ℕ, _<_}
 use Rattle.quorum.specs.Configurations.{isPlace}
 use Rattle.quorum.specs.declared.Place.{Place}

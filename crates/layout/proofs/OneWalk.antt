@@ -1,17 +1,15 @@
 -- The one walk finds what the two searches find: the statement of specs/Walk.antt.
 use mathlib.Core.Path.{_≡_, refl, sym, ap, _∙_}
 use mathlib.Core.Bool.{Bool, true, false, cond}
-use mathlib.Core.Logic.{_↔_}
 use mathlib.Core.Option.{Option, none, some}
 use Prim.Native.Nat.{ℕ, zero, suc, _+_, _<_}
-use native.Mathlib.Omega.{arith}
 use lib.Dec.{ltb}
 use Rattle.basics.proofs.Tests.{clash, by-cases, fails}
 use Rattle.quorum.specs.Sets.{member, join}
 use Rattle.quorum.specs.declared.Place.the-variants.{Nowhere}
 use Rattle.quorum.proofs.Promise.{promise}
 use Rattle.layout.specs.Fields.{Copy}
-use Rattle.layout.specs.Newest.{newest, newer, IsNewest, versionStation, generationStation, stationFigure, byVersion, byGeneration, heardPlace, hears}
+use Rattle.layout.specs.Newest.{newest, newer, versionStation, generationStation, stationFigure, byVersion, byGeneration, heardPlace, hears}
 use Rattle.layout.specs.Walk.{Walked, onward, walk, walkedVersion, walkedGeneration, OneWalk}
 use Rattle.layout.proofs.Newer.{newest-exactly, by-version, by-generation, heard-finds}
 use Rattle.layout.proofs.Along.{along, along-none, along-joined}

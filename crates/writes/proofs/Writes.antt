@@ -1,18 +1,14 @@
 -- What commit and lay write, as lists of bytes.
-use mathlib.Core.Path.{_≡_, refl, sym, ap, _∙_}
+use mathlib.Core.Path.{_≡_, refl, sym, _∙_}
 use mathlib.Core.Bool.{Bool, true, false, cond, _||_}
 use mathlib.Core.List.{List, _∷_, _++_, append-assoc, append-nil}
 use Prim.Native.Nat.{ℕ, zero, suc, _+_, _-_, _*_, _≤_}
 use native.Mathlib.Omega.{arith}
 use native.Mathlib.Nat.{add-zero, zero-add, suc-add, mul-le-mul, not-suc-le-zero}
-use native.Mathlib.Numerals.{add-one}
-use lib.Dec.{eqb}
 use lib.ListN.{length, replicate, length-append}
 use lib.Seq.{take-all}
-use borrow.Author.Tests.{eqb-true, not-false}
 use Rattle.quorum.specs.Sets.{member, unite, full}
 use Rattle.basics.specs.Bytes.{part, bytesOf, over}
-use Rattle.basics.proofs.Tests.{or-false-left, or-false-right}
 use Rattle.quorum.proofs.Promise.{promise}
 use Rattle.quorum.specs.Configurations.{configSize}
 use Rattle.layout.specs.Layout.{headSize, offAt, copiesAt, copySize, address, tableLength}

@@ -1,4 +1,4 @@
-use mathlib.Core.Path.{_≡_, refl}
+use mathlib.Core.Path.{refl}
 use Rattle.layout.specs.Fields.{read}
 use Rattle.layout.specs.View.{view}
 use Rattle.layout.proofs.Soundness.{sound-head}

@@ -1,14 +1,13 @@
 -- At a turn the puts of the stations taken have taken effect, and those of the stations left are to come.
 use native.Mathlib.Omega.{arith}
 use borrow.Author.Needs.{needs}
-use mathlib.Core.List.{List}
-use Prim.Native.Nat.{ℕ, _+_, _≤_}
-use mathlib.Core.Path.{_≡_, refl, sym, ap, _∙_}
+use Prim.Native.Nat.{_+_, _≤_}
+use mathlib.Core.Path.{_≡_, refl, _∙_}
 use lib.ListN.{length}
 use Rattle.layout.specs.Layout.{copySize}
 use Rattle.layout.specs.Fields.{newCopy}
 use Rattle.layout.specs.Updates.{putCopies}
-use Rattle.layout.proofs.Along.{Left, left-start, left-done, left-past, left-falls, left-turn}
+use Rattle.layout.proofs.Along.{Left, left-done, left-past, left-falls, left-turn}
 use Rattle.table.proofs.ItemCopies.{copy-range, copy-fits}
 use Rattle.rounds.specs.Round.{asRound}
 use Rattle.writes.proofs.Writes.{put-station, puts-along, put-turn}
@@ -100,8 +99,9 @@ loop-again c =
     let turn = in-loop c in
     let inv = turn .before .loop .inv in
     let low = placed c .before in
-    let put = put-turn _ (asRound (began (turn .before) .args .round)) _ _ _ (placed c .address .ensures) (first c .before .is-member .ensures) (second c .before .is-member2 .ensures)
-    (inv .0) (first c .put-data-if .ensures) (second c .put-config-if .ensures) in (
+    let round = asRound (began (turn .before) .args .round) in
+    let put = put-turn _ round _ _ _ (placed c .address .ensures) (first c .before .is-member .ensures) (second c .before .is-member2 .ensures) (inv .0)
+    (first c .put-data-if .ensures) (second c .put-config-if .ensures) in (
       inv .0,
       second c .put-config-if .kept .0 ∙ first c .put-data-if .kept .0 ∙ inv .1,
       left-turn (inv .2) (turn .loop-test .taken) (c .without-lowest .ensures) (low .before .lowest .ensures) (low .if1 .left) put,

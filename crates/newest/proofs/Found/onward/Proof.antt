@@ -1,4 +1,3 @@
-use mathlib.Core.Path.{_≡_, refl, sym, ap, _∙_}
 use borrow.Author.Needs.{needs}
 use Rattle.table.proofs.ItemCopies.{copy-range, copy-fits}
 use Rattle.newest.proofs.Found.onward.Statement.{statement}
