@@ -1,4 +1,6 @@
 // Poll, put, commit, link, reach and diagnose, on a sound table: each asks for its number, and if that is 0 does what it is for.
+#![tactic(auto)]
+
 ghost use Rattle.std.specs.Prelude.{◌≡◌, true, ◌<◌};
 ghost use Rattle.layout.specs.Fields.{items};
 ghost use Rattle.layout.specs.Soundness.{sound};

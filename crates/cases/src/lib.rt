@@ -1,1 +1,2 @@
 // The starred cases of document 01, computed from the rules.
+#![tactic(auto)]

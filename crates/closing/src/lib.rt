@@ -1,5 +1,7 @@
 // Commit's reply and diagnose's on a sound table with an open round: one walk over the polled copies, and what it has found is handed on. Nothing is
 // changed here.
+#![tactic(auto)]
+
 ghost use Rattle.std.specs.Prelude.{◌≡◌};
 ghost use Rattle.layout.specs.Fields.{write, change};
 ghost use Rattle.rules.specs.Calls.{commit, diagnose};

@@ -1,4 +1,6 @@
 // Calls by code: one function from a call's code and its argument bytes to the reply, on the table as it is lent.
+#![tactic(auto)]
+
 ghost use Rattle.std.specs.Prelude.{◌≡◌, ◌<◌, length};
 ghost use Rattle.basics.specs.Bytes.{number};
 ghost use Rattle.dispatch.specs.Dispatch.{frame_length, call_at, false_frame, reply_or, after_or};

@@ -1,4 +1,6 @@
 // A piece of input fed to a session.
+#![tactic(auto)]
+
 ghost use Rattle.std.specs.Prelude.{◌≡◌, ◌⊎◌, ◌+◌, ◌≤◌, ◌<◌, length};
 ghost use Rattle.replies.specs.ReplyLine.{reply_line_size};
 ghost use Rattle.layout.specs.Layout.{largest};
@@ -9,7 +11,7 @@ use lines::{find_end, keep};
 use replies::REPLY_LINE_SIZE;
 
 // How far the piece is taken, and the lengths in use: of the line so far, of the table, of the output.
-#[derive(Drop)]
+#[derive(Clone, Copy)]
 pub struct Fed {
     pub at: usize,
     pub len: usize,

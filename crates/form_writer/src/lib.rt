@@ -1,4 +1,6 @@
 // The writer of standard forms (document 02, 2026-06): a valid configuration is taken to its standard form.
+#![tactic(auto)]
+
 ghost use Rattle.std.specs.Prelude.{◌≡◌};
 ghost use Rattle.spelling.specs.Writer.{form_number, form_output};
 

@@ -1,4 +1,6 @@
 // Whether a configuration is in its standard form already (document 02, 2026-06): most are, and need no work then.
+#![tactic(auto)]
+
 ghost use Rattle.std.specs.Prelude.{◌≡◌, true, ◌↔◌, ℕ, ◌+◌, ◌<◌, ◌≤◌, length};
 ghost use Rattle.quorum.specs.Configurations.{config_size, valid};
 ghost use Rattle.form.specs.Form.{standard_form};

@@ -1,4 +1,5 @@
 // The bytes of the table: definitions and laws. What the code has of them are the sizes, the places and the kinds, by name.
+#![tactic(auto)]
 
 // The head: its size, and where its fields stand.
 pub const HEAD_SIZE: usize = 56;

@@ -1,4 +1,6 @@
 // Lines: where one ends in a piece of input, and what is kept of one that the end of a piece cuts.
+#![tactic(auto)]
+
 ghost use Rattle.std.specs.Prelude.{◌≡◌, ◌++◌, ◌+◌, ◌-◌, ◌≤◌, length, take};
 ghost use Rattle.runs.specs.Pieces.{enough, clip};
 ghost use Rattle.lines.specs.Splitting.{end_from};

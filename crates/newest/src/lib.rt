@@ -1,4 +1,6 @@
 // What the copies of an item at the stations of a set give: the newest by version and the newest by generation, by one walk.
+#![tactic(auto)]
+
 ghost use Rattle.std.specs.Prelude.{◌≡◌, cond, ◌<◌};
 ghost use Rattle.layout.specs.Fields.{copies_of};
 ghost use Rattle.layout.specs.Newest.{version_station, generation_station};
@@ -9,7 +11,7 @@ ghost use Rattle.newest.specs.Walks.{as_walked, as_option};
 use table::copy::{Generation, Version, address, config_at, generation_at, version_at};
 
 // What the walk carries: the stations of the newest copies, and the counters by which they are the newest.
-#[derive(Drop)]
+#[derive(Clone, Copy)]
 pub struct Newest {
     pub by_version: usize,
     pub version: Version,
@@ -18,7 +20,7 @@ pub struct Newest {
 }
 
 // What the walk has found; nobody, where there is no station.
-#[derive(Drop)]
+#[derive(Clone, Copy)]
 pub enum Found {
     Copies(Newest),
     Nobody,

@@ -1,5 +1,7 @@
 // The numbers of the calls' replies, but for commit's and plan's 15: document 01's tests in its order. On a sound table, but for lay's. Nothing is changed
 // here.
+#![tactic(auto)]
+
 ghost use Rattle.std.specs.Prelude.{◌≡◌, true, false, ◌||◌, eqb, length, drop, ◌≤◌};
 ghost use Rattle.layout.specs.Layout.{head_size};
 ghost use Rattle.layout.specs.Fields.{none};

@@ -1,4 +1,6 @@
 // The calls that open and abandon a round, on a sound table: each asks for its number, and if that is 0 writes the round.
+#![tactic(auto)]
+
 ghost use Rattle.std.specs.Prelude.{◌≡◌, true};
 ghost use Rattle.layout.specs.Soundness.{sound};
 ghost use Rattle.rules.specs.Calls.{open_read, open_write, open_change, abandon};

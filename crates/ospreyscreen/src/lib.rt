@@ -1,5 +1,7 @@
 // The calls as C links them, on any bytes and numbers. Each call on a table replies as `reply` says and leaves the table as `after` says;
 // every one but lay asks first whether the table is sound. Votes and the writer of standard forms look at no table.
+#![tactic(auto)]
+
 ghost use Rattle.std.specs.Prelude.{◌≡◌};
 ghost use Rattle.rules.specs.Calls.{lay, open_read, open_write, open_change, poll, put, commit, abandon, link, reach, diagnose, plan};
 ghost use Rattle.rules.specs.Reply.{reply, after};

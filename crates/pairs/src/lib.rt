@@ -1,4 +1,6 @@
 // Whether one configuration is valid, tested eight pairs of its sets at once: soundness asks it of each copy.
+#![tactic(auto)]
+
 ghost use Rattle.std.specs.Prelude.{◌≡◌, ◌+◌, ◌*◌, ◌<◌, ◌≤◌, length};
 ghost use Rattle.quorum.specs.Configurations.{config_size, valid};
 ghost use Rattle.pairs.specs.Pairs.{filled, filled_side, row_ok, pairs_ok, four, FourFit, outside_of, four_within};

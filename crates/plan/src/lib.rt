@@ -1,1 +1,2 @@
 // How many polls and puts a round will take: definitions and laws.
+#![tactic(auto)]

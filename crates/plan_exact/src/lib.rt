@@ -1,1 +1,2 @@
 // Plan is exact: theorems on rounds.
+#![tactic(auto)]

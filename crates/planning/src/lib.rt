@@ -1,4 +1,6 @@
 // How many polls and puts a round will take: the stations on the bus, taken the lowest first, until enough are polled, and again until enough are written.
+#![tactic(auto)]
+
 ghost use Rattle.std.specs.Prelude.{◌≡◌, true};
 ghost use Rattle.quorum.specs.Sets.{within};
 ghost use Rattle.quorum.specs.Configurations.{place_figure, holds_write};
@@ -16,7 +18,7 @@ use rules::Reply;
 use table::head::{on_bus, stations};
 
 // After how many polls a round is first heard, and the newest copies then.
-#[derive(Drop)]
+#[derive(Clone, Copy)]
 pub enum FirstHeard {
     After(u64, Newest),
     Never,

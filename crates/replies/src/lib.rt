@@ -1,4 +1,6 @@
 // Reply lines: "A reply is the call byte, the number, three figures of 8 bytes."
+#![tactic(auto)]
+
 ghost use Rattle.std.specs.Prelude.{◌≡◌, ◌+◌, ◌*◌, ◌≤◌, length};
 ghost use Rattle.basics.specs.Bytes.{over};
 ghost use Rattle.frames.specs.Hex.{hex_of};

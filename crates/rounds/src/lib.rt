@@ -1,4 +1,6 @@
 // The open round as a value, whether a round is heard, and what the open round has found.
+#![tactic(auto)]
+
 pub mod found;
 pub mod heard;
 pub mod round;

@@ -9,7 +9,7 @@ use quorum::CONFIG_SIZE;
 use table::head;
 use table::number::config_bytes_at;
 
-#[derive(Drop)]
+#[derive(Clone, Copy)]
 pub struct Round {
     pub kind: u8,
     pub item: usize,

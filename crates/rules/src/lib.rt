@@ -1,6 +1,8 @@
 // The reply of a call: "Every reply is a number and three figures." The functions of the store return it.
+#![tactic(auto)]
+
 #[repr(C)]
-#[derive(Drop)]
+#[derive(Clone, Copy)]
 pub struct Reply {
     pub number: u64,
     pub first: u64,

@@ -1,1 +1,2 @@
 // Sessions and runs: definitions and theorems, no code.
+#![tactic(auto)]

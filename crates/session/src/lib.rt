@@ -1,4 +1,6 @@
 // One line of a session.
+#![tactic(auto)]
+
 ghost use Rattle.std.specs.Prelude.{◌≡◌, ◌+◌, ◌≤◌, length, take};
 ghost use Rattle.basics.specs.Bytes.{over};
 ghost use Rattle.dispatch.specs.Dispatch.{call_at};

@@ -1,4 +1,6 @@
 // Station sets and configurations: the tests on them, each equal to its definition in `quorum` on any input.
+#![tactic(auto)]
+
 ghost use Rattle.std.specs.Prelude.{◌≡◌, ◌<◌, ◌≤◌, length};
 ghost use Rattle.quorum.specs.Sets.{member, shares, within, join, unite, minus, remove, lowest, full};
 ghost use Rattle.quorum.specs.Configurations.{config_size, set_at, holds_place, first_read, place_figure, is_place, holds_read, holds_write};

@@ -1,4 +1,6 @@
 // Soundness, which every call asks first.
+#![tactic(auto)]
+
 ghost use Rattle.std.specs.Prelude.{◌≡◌, true, ◌+◌, ◌*◌, ◌≤◌, length};
 ghost use Rattle.layout.specs.Layout.{head_size};
 ghost use Rattle.layout.specs.Fields.{round_of};

@@ -21,7 +21,7 @@ fn greater(a: u64, b: u64) -> u64
 }
 
 // How often the value was written. It is compared only with versions.
-#[derive(Drop)]
+#[derive(Clone, Copy)]
 pub struct Version(pub u64);
 
 impl Version {
@@ -54,7 +54,7 @@ impl Version {
 }
 
 // How often the configuration was changed. It is compared only with generations.
-#[derive(Drop)]
+#[derive(Clone, Copy)]
 pub struct Generation(pub u64);
 
 impl Generation {

@@ -1,4 +1,6 @@
 // The bytes of the table.
+#![tactic(auto)]
+
 pub mod copy;
 pub mod head;
 pub mod number;

@@ -1,4 +1,6 @@
 // Whether configurations are valid, also many of them a stride apart, as fast as every call has to: soundness asks it of each copy.
+#![tactic(auto)]
+
 ghost use Rattle.std.specs.Prelude.{◌≡◌, true, ℕ, ◌+◌, ◌-◌, ◌*◌, ◌<◌, ◌≤◌, length};
 ghost use Rattle.quorum.specs.Configurations.{config_size, valid};
 ghost use Rattle.validity.specs.Rows.{valid_to, same_again, same_lane, same_block, StillValid};

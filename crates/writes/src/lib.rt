@@ -1,4 +1,6 @@
 // What commit and lay write.
+#![tactic(auto)]
+
 ghost use Rattle.std.specs.Prelude.{◌≡◌, cond, ◌+◌, ◌*◌, ◌≤◌, min, length};
 ghost use Rattle.basics.specs.Bytes.{part, over};
 ghost use Rattle.quorum.specs.Configurations.{config_size};
