@@ -1,0 +1,22 @@
+use native.Mathlib.Omega.{arith}
+use lib.ListN.{length-take}
+use Rattle.feeding.proofs.Taking.{ends_none, ends_line}
+use Rattle.feeding.proofs.finish.Goals as goal
+
+pub returns-then-len-eq0 : goal.returns-then-len-eq0
+returns-then-len-eq0 c =
+    let a = c.args in
+    ends_none a.table-1.now a.line.now a.out-1.now a.s c.requires.0 c.if-len-eq0.true
+
+pub slice_bounds-answer_line-end : goal.slice_bounds-answer_line-end
+slice_bounds-answer_line-end c =
+    let fits = c.requires.0 in
+    simp length-take (omega (arith, fits.line_length, fits.line_fits))
+
+pub returns : goal.returns
+returns c =
+    let x = c.answer_line in
+    let some = c.if-len-eq0.false in
+    let a = c.args in
+    ends_line a.table-1.now a.line.now a.out-1.now a.s _ _ _ c.requires.0 c.requires.1 (omega (arith, some)) x.ensures.0
+    x.auto.1.0 x.auto.1.1.0

@@ -1,0 +1,34 @@
+use mathlib.Core.Path.{sym, ◌∙◌}
+use Prim.Native.Nat.{◌+◌}
+use native.Mathlib.Omega.{arith}
+use Rattle.layout.proofs.Along.{left_less}
+use Rattle.planning.proofs.Walking.{Position, position_start, count_fits, turn, none_yet, none_more, first_passes, none_at_all}
+use Rattle.planning.proofs.puts_needed.Goals as goal
+
+pub loop-rest-init : goal.loop-rest-init
+loop-rest-init c = (position_start _ c.ranges.on.fits, none_yet)
+
+pub overflow_add-puts : goal.overflow_add-puts
+overflow_add-puts c = omega (arith, count_fits c.loop-rest.invariant.0)
+overflow_add-puts c = c in
+    Position turned.args.on (turned.loop-rest.puts + 1) c.without_lowest-rest.result c.with_station-written.result
+overflow_add-puts c =
+    turn c.loop-rest.invariant.0 c.loop-rest-test.true c.lowest-s.ensures c.without_lowest-rest.ensures c.with_station-written.ensures
+
+pub returns-then-holds_write_set : goal.returns-then-holds_write_set
+returns-then-holds_write_set c =
+    sym (first_passes c.loop-rest.invariant.1 (stepped c) (sym c.holds_write_set.ensures ∙ c.if-holds_write_set.true))
+
+pub loop-rest-smaller : goal.loop-rest-smaller
+loop-rest-smaller c =
+    left_less _ c.loop-rest.invariant.0.small c.loop-rest-test.true c.without_lowest-rest.ensures
+
+pub loop-rest-preserved : goal.loop-rest-preserved
+loop-rest-preserved c =
+    let after = stepped c in (
+      after,
+      none_more c.loop-rest.invariant.1 after (sym c.holds_write_set.ensures ∙ c.if-holds_write_set.false),
+    )
+
+pub returns : goal.returns
+returns c = let turned = c.loop-rest.invariant in sym (none_at_all turned.1 turned.0 c.loop-rest-test.false)

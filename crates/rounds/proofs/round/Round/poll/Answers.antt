@@ -1,0 +1,4 @@
+use Rattle.rounds.proofs.round.Round.poll.Goals as goal
+
+pub returns : goal.returns
+returns c = cc

@@ -1,0 +1,57 @@
+use native.Mathlib.Omega.{arith}
+use mathlib.Core.Path.{◌≡◌, sym, ◌∙◌}
+use mathlib.Core.Bool.{true, false}
+use Prim.Native.Nat.{◌*◌}
+use borrow.Author.Tests.{not-true, not-false}
+use Rattle.layout.specs.Layout.{table_length}
+use Rattle.layout.specs.Fields.{stations, items}
+use Rattle.soundness.proofs.Scan.{Size, size_facts, kind}
+use Rattle.soundness.specs.Scan.{round_blank}
+use Rattle.soundness.proofs.rest_ok.Goals as goal
+use Rattle.soundness.proofs.rest_ok.Goals.{After-shared_slice_known-1}
+
+-- what the length says
+size : (c : After-shared_slice_known-1) → Size c.args.t.now
+size c = size_facts _ c.requires.0
+copies : (c : tie.After-items) → let t = c.args.t.now in
+    c.stations-n.result * c.items.result ≡ stations t * items t
+copies c = cc
+
+-- the number of copies
+pub round_ok-requires : goal.round_ok-requires
+unfolding table_length
+round_ok-requires c = let h = (size (goal.at.round_ok-requires c).After-shared_slice_known-1).long in omega arith
+
+pub returns-then-not-round_ok : goal.returns-then-not-round_ok
+returns-then-not-round_ok c =
+    let t = c.args.t.now in
+    let e : round_blank t (kind t) ≡ false = sym c.round_ok.ensures ∙ not-true _ c.if-not-round_ok.true-raw in
+    rw e
+
+pub stations-n-requires : goal.stations-n-requires
+unfolding table_length
+stations-n-requires c = let h = (size (goal.at.stations-n-requires c).After-shared_slice_known-1).long in omega arith
+
+pub items-requires : goal.items-requires
+unfolding table_length
+items-requires c = let h = (size (goal.at.items-requires c).After-shared_slice_known-1).long in omega arith
+
+pub overflow_mul-count : goal.overflow_mul-count
+overflow_mul-count c = let h = size (goal.at.overflow_mul-count c).After-shared_slice_known-1 in let e = copies c in omega arith
+
+pub overflow_add-count : goal.overflow_add-count
+overflow_add-count c = let h = size (goal.at.overflow_add-count c).After-shared_slice_known-1 in let e = copies c in omega arith
+
+pub all_valid-requires : goal.all_valid-requires
+unfolding table_length
+all_valid-requires c =
+    let h = size (goal.at.all_valid-requires c).After-shared_slice_known-1 in
+    let e = copies c in
+    let n = c.stations-n.ensures in
+    (omega arith, omega arith, omega arith, omega arith, λ k l. omega arith)
+
+pub returns : goal.returns
+returns c =
+    let t = c.args.t.now in
+    let e : round_blank t (kind t) ≡ true = sym c.round_ok.ensures ∙ not-false _ c.if-not-round_ok.false-raw in
+    rw (e, ← c.stations-n.ensures, ← c.items.ensures) c.all_valid.ensures

@@ -1,0 +1,7 @@
+use Rattle.layout.specs.Fields.{copy_from}
+use borrow.Author.Rules.{rules}
+use Rattle.table.proofs.copy.generation_at.Goals as goal
+
+pub returns : goal.returns
+unfolding copy_from
+returns c = search rules

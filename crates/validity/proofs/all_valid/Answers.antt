@@ -1,0 +1,57 @@
+use borrow.Author.Rules.{rules}
+use native.Mathlib.Omega.{arith}
+use native.Mathlib.Nat.{le_antisymm, add-sub_cancel_left}
+use mathlib.Core.Path.{◌≡◌, sym, ap, ◌∙◌}
+use mathlib.Core.Bool.{true}
+use Prim.Native.Nat.{◌+◌, ◌-◌, ◌*◌}
+use borrow.Author.Tests.{not-true, not-false}
+use Rattle.validity.specs.Rows.{valid_at, valid_to}
+use Rattle.validity.proofs.Same.{none_yet, one_more, one_fails}
+use Rattle.validity.proofs.all_valid.Goals as goal
+
+-- the bytes of configuration k
+pub loop-k-init : goal.loop-k-init
+loop-k-init c = let a = c.args in (search rules, none_yet a.n a.bytes.now a.at a.stride)
+
+pub overflow_mul-place : goal.overflow_mul-place
+overflow_mul-place c = let h = room c in search rules
+
+pub overflow_add-place : goal.overflow_add-place
+overflow_add-place c = let h = room c in search rules
+
+pub overflow_add-place-in-loop-k : goal.overflow_add-place-in-loop-k
+overflow_add-place-in-loop-k c = let h = room c in search rules
+
+pub slice_bounds-config_ok-count : goal.slice_bounds-config_ok-count
+slice_bounds-config_ok-count c = let h = room c in search rules
+
+pub config_ok-requires : goal.config_ok-requires
+config_ok-requires c = let h = room c in search rules
+config_ok-requires c = c in let a = turn.args in
+    c.config_ok.result ≡ valid_at a.n a.bytes.now (a.at + a.stride * turn.loop-k.k)
+config_ok-requires c = rw (add-sub_cancel_left) at c.config_ok.ensures
+
+-- what the test of configuration k says
+pub returns-then-not-config_ok : goal.returns-then-not-config_ok
+returns-then-not-config_ok c =
+    one_fails _ _ _ _ _ c.loop-k.k c.loop-k-test.true (sym (tested c) ∙ not-true _ c.if-not-config_ok.true-raw)
+
+pub past_same-k-requires : goal.past_same-k-requires
+past_same-k-requires c =
+    let l = c.loop-k-test.true in
+    (search rules, omega arith, c.requires.2, c.requires.3, c.requires.4)
+
+pub loop-k-smaller : goal.loop-k-smaller
+loop-k-smaller c = let l = c.loop-k-test.true in let g = c.past_same-k.ensures in omega arith
+
+pub loop-k-preserved : goal.loop-k-preserved
+loop-k-preserved c =
+    let turn = c.loop-k in
+    let next = c.past_same-k.ensures in
+    (next.1, next.2 _ (one_more _ _ _ _ turn.k turn.invariant.1 (sym (tested c) ∙ not-false _ c.if-not-config_ok.false-raw)))
+
+pub returns : goal.returns
+returns c =
+    let a = c.args in
+    let kept = c.loop-k.invariant in
+    sym (ap (valid_to a.n a.bytes.now a.at a.stride) (le_antisymm c.loop-k-test.false kept.0) ∙ kept.1)

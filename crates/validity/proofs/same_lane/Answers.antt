@@ -1,0 +1,29 @@
+use borrow.Author.Rules.{rules}
+use mathlib.Core.Path.{refl, sym}
+use Prim.Native.Nat.{◌-◌}
+use Rattle.basics.proofs.Tests.{all_start, all_turn, all_end}
+use Rattle.validity.specs.Rows.{same_lane}
+use Rattle.validity.proofs.same_lane.Goals as goal
+
+-- the byte so many strides on
+pub loop-j-init : goal.loop-j-init
+loop-j-init c = (search rules, sym (all_start _))
+
+pub overflow_add-ok : goal.overflow_add-ok
+overflow_add-ok c = let h = room c in search rules
+
+pub overflow_mul-ok : goal.overflow_mul-ok
+overflow_mul-ok c = let h = room c in search rules
+
+pub overflow_add-ok-in-loop-j : goal.overflow_add-ok-in-loop-j
+overflow_add-ok-in-loop-j c = let h = room c in search rules
+
+pub bounds-bytes-at : goal.bounds-bytes-at
+bounds-bytes-at c = let h = room c in search rules
+
+pub loop-j-preserved : goal.loop-j-preserved
+loop-j-preserved c = (search rules, all_turn _ _ c.loop-j.invariant.1 refl)
+
+pub returns : goal.returns
+unfolding same_lane
+returns c = all_end _ 8 _ c.loop-j.invariant.0 c.loop-j-test.false c.loop-j.invariant.1
