@@ -9,4 +9,4 @@ unfolding put_config
 returns c =
     let a = c.args in
     c.put_config_bytes.ensures
-    ∙ rw c.put_u64.ensures (over-number a.copy-1.now 16 8 a.generation.0 a.config (search rules))
+    ∙ rw c.put_u64.ensures (over-number a.copy.now 16 8 a.generation.0 a.config (search rules))

@@ -9,4 +9,4 @@ unfolding put_data
 returns c =
     let a = c.args in
     c.put_u64-2.ensures
-    ∙ rw c.put_u64.ensures (over-numbers a.copy-1.now 0 8 a.version.0 8 a.value (search rules))
+    ∙ rw c.put_u64.ensures (over-numbers a.copy.now 0 8 a.version.0 8 a.value (search rules))

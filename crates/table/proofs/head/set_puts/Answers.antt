@@ -9,4 +9,4 @@ unfolding set_puts
 returns c =
     let a = c.args in
     c.put_u16-2.ensures
-    ∙ rw c.put_u16.ensures (over-numbers a.t.now 8 2 a.data-puts 2 a.config-puts (search rules))
+    ∙ rw c.put_u16.ensures (over-numbers a.t.now 8 2 a.data_puts 2 a.config_puts (search rules))

@@ -11,4 +11,4 @@ returns c =
     let first = c.put_pair in
     let value = c.put_u64 in
     c.put_config_bytes.ensures
-    ∙ rw (value.ensures, over-number first.new.0 16 8 a.value a.target (search rules), first.ensures)
+    ∙ rw (value.ensures, over-number first.new.t 16 8 a.value a.target (search rules), first.ensures)
