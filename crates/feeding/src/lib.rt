@@ -23,7 +23,7 @@ pub struct Fed {
 fn answer_line(bytes: &[u8], table: &mut [u8], out: &mut [u8], s: Fed, at: usize) -> Fed
     requires { (length table.old ≡ largest) × (s.used ≤ largest) × HasRoom out.old s }
     ensures answers_line { AnswersLine bytes.now table.old out.old s table.new out.new result }
-    ensures at_value { result.at ≡ at }
+    ensures stays_there { result.at ≡ at }
 {
     let used = session::answer(bytes, table, s.used, out, s.out);
     Fed {
@@ -45,10 +45,10 @@ fn take_line(
     s: Fed,
 ) -> Fed
     requires fits { Fits table.old line.old out.old s × HasRoom out.old s }
-    requires end_value { (end ≡ end_from piece.now s.at) × (end < length piece.now) }
+    requires is_line_end { (end ≡ end_from piece.now s.at) × (end < length piece.now) }
     ensures takes { Takes piece.now table.old line.old out.old s
         table.new line.new out.new result }
-    ensures at_lt_at { s.at < result.at }
+    ensures goes_on { s.at < result.at }
 {
     let at = s.at;
     if s.len == 0 {
@@ -64,7 +64,7 @@ fn step(piece: &[u8], table: &mut [u8], line: &mut [u8], out: &mut [u8], s: Fed)
     requires at_in_bounds { s.at < length piece.now }
     ensures takes { Takes piece.now table.old line.old out.old s
         table.new line.new out.new result }
-    ensures at_lt_at { s.at < result.at }
+    ensures goes_on { s.at < result.at }
 {
     let at = s.at;
     let end = find_end(piece, at);
@@ -85,7 +85,7 @@ pub fn feed(piece: &[u8], table: &mut [u8], line: &mut [u8], out: &mut [u8], fro
     requires { Fits table.old line.old out.old from }
     ensures takes { Takes piece.now table.old line.old out.old from
         table.new line.new out.new result }
-    ensures fact { (length piece.now ≤ result.at) ⊎ (length out.old < result.out + reply_line_size) }
+    ensures ended_or_full { (length piece.now ≤ result.at) ⊎ (length out.old < result.out + reply_line_size) }
 {
     let mut s = from;
     while s.at < piece.len() {

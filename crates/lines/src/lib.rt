@@ -28,7 +28,7 @@ pub fn find_end(piece: &[u8], at: usize) -> usize
 fn joining(bytes: &[u8], len: usize) -> usize
     requires { len ≤ enough }
     ensures upper_bound { (result ≤ length bytes.now) × (len + result ≤ enough) }
-    ensures bytes_value { take result bytes.now ≡ take (enough - len) bytes.now }
+    ensures clipped { take result bytes.now ≡ take (enough - len) bytes.now }
 {
     let room = ENOUGH - len;
     if bytes.len() < room {

@@ -65,9 +65,9 @@ fn newer(is_newer: bool, s: usize, best: usize) -> usize
 // The walk over the stations of the set below n, the lowest first: what the two searches would find, each by itself.
 pub fn walk(t: &[u8], n: usize, item: usize, set: u16) -> Found
     requires { InTable t.now n item }
-    ensures result_value { as_option result ≡ walk (copies_of t.now n item) set n }
-    ensures result_value_2 { walked_version (as_option result) ≡ version_station (copies_of t.now n item) set n }
-    ensures result_value_3 { walked_generation (as_option result) ≡ generation_station (copies_of t.now n item) set n }
+    ensures walked { as_option result ≡ walk (copies_of t.now n item) set n }
+    ensures version { walked_version (as_option result) ≡ version_station (copies_of t.now n item) set n }
+    ensures generation { walked_generation (as_option result) ≡ generation_station (copies_of t.now n item) set n }
 {
     let mut found = Found::Nobody;
     let mut rest = set;

@@ -23,7 +23,7 @@ abbrev at-bus : In-Copies → After-on_bus-on
 at-bus c = c
 found : (c : tie.After-known-told) → let bus = at-bus c in
     HasFound bus.args.t.now bus.stations-n.result bus.args.i bus.on_bus_lem.result c.in-Copies.newest
-found c = has_found c.walk-found.ensures.result_value c.in-Copies.is
+found c = has_found c.walk-found.ensures.walked c.in-Copies.is
 
 pub stations-n-requires : goal.stations-n-requires
 stations-n-requires c = sound_head _ c.requires.0
@@ -37,7 +37,7 @@ walk-found-requires c = in_table (goal.at.walk-found-requires c).After-on_bus-on
 pub returns-in_default : goal.returns-in_default
 returns-in_default c =
     not_reached _ _ c.stations-n.ensures c.on_bus_lem.ensures
-    (nobody_hears _ _ _ (nobody_found c.walk-found.ensures.result_value c.in_default.is))
+    (nobody_hears _ _ _ (nobody_found c.walk-found.ensures.walked c.in_default.is))
 
 pub is_heard-requires : goal.is_heard-requires
 is_heard-requires c = (in_table (at-bus (goal.at.is_heard-requires c).In-Copies), found c)

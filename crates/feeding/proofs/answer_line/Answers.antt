@@ -5,5 +5,5 @@ pub returns : goal.returns
 returns c = let answered = c.answer-used.ensures in
     record {
       answers_line = record { table_now = answered.0; shown = answered.1; out_end = refl; no_line = refl };
-      at_value = refl;
+      stays_there = refl;
     }

@@ -36,7 +36,7 @@ step-s-requires c = let l = c.loop-s in
 
 pub loop-s-smaller : goal.loop-s-smaller
 loop-s-smaller c =
-    omega (arith, c.step-s.ensures.at_lt_at, c.loop-s-test.true)
+    omega (arith, c.step-s.ensures.goes_on, c.loop-s-test.true)
 
 pub loop-s-preserved : goal.loop-s-preserved
 loop-s-preserved c =

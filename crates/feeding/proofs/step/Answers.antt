@@ -13,5 +13,5 @@ returns c = let k = c.keep-len in
     in
     record {
       takes = took;
-      at_lt_at = omega (arith, cut, c.requires.at_in_bounds);
+      goes_on = omega (arith, cut, c.requires.at_in_bounds);
     }

@@ -13,7 +13,7 @@ use Rattle.feeding.proofs.take_line.Goals as goal
 pub slice_bounds-answer_line-count : goal.slice_bounds-answer_line-count
 slice_bounds-answer_line-count c =
     let a = c.args in
-    omega (arith, end_forward a.piece.now a.s.at a.end c.requires.end_value.0, c.requires.end_value.1)
+    omega (arith, end_forward a.piece.now a.s.at a.end c.requires.is_line_end.0, c.requires.is_line_end.1)
 
 pub returns-then-s-eq0 : goal.returns-then-s-eq0
 returns-then-s-eq0 c = let x = c.answer_line in
@@ -23,18 +23,18 @@ returns-then-s-eq0 c = let x = c.answer_line in
     let bytes = stretch a.piece.now a.s.at a.end in
     let same : clip bytes ≡ clip (take a.s.len a.line-1.now ++ bytes) = rw none in
     let took =
-    took_line a.piece.now a.table-1.now a.line-1.now a.out-1.now a.s a.end c.requires.end_value.0 fits bytes _ a.line-1.now _ _
-    c.requires.end_value.1 c.requires.fits.1 same x.ensures.0 x.ensures.1 x.auto.1.0 refl x.auto.1.1.0
+    took_line a.piece.now a.table-1.now a.line-1.now a.out-1.now a.s a.end c.requires.is_line_end.0 fits bytes _ a.line-1.now _ _
+    c.requires.is_line_end.1 c.requires.fits.1 same x.ensures.0 x.ensures.1 x.auto.1.0 refl x.auto.1.1.0
     in
     record {
       takes = took;
-      at_lt_at = omega (arith, x.ensures.1, end_forward a.piece.now a.s.at a.end c.requires.end_value.0);
+      goes_on = omega (arith, x.ensures.1, end_forward a.piece.now a.s.at a.end c.requires.is_line_end.0);
     }
 
 pub slice_bounds-keep-count : goal.slice_bounds-keep-count
 slice_bounds-keep-count c =
     let a = c.args in
-    omega (arith, end_forward a.piece.now a.s.at a.end c.requires.end_value.0, c.requires.end_value.1)
+    omega (arith, end_forward a.piece.now a.s.at a.end c.requires.is_line_end.0, c.requires.is_line_end.1)
 
 pub slice_bounds-answer_line-end-3 : goal.slice_bounds-answer_line-end-3
 slice_bounds-answer_line-end-3 c =
@@ -49,10 +49,10 @@ returns c = let x = c.answer_line-2 in
     let line = take k.result k.new.1.0 in
     let short : length line ≤ enough = rw length-take (omega (arith, k.ensures.0)) in
     let took =
-    took_line a.piece.now a.table-1.now a.line-1.now a.out-1.now a.s a.end c.requires.end_value.0 fits line _ _ _ _
-    c.requires.end_value.1 c.requires.fits.1 (clip-all line short ∙ k.ensures.1) x.ensures.0 x.ensures.1 x.auto.1.0 k.auto.1.0 x.auto.1.1.0
+    took_line a.piece.now a.table-1.now a.line-1.now a.out-1.now a.s a.end c.requires.is_line_end.0 fits line _ _ _ _
+    c.requires.is_line_end.1 c.requires.fits.1 (clip-all line short ∙ k.ensures.1) x.ensures.0 x.ensures.1 x.auto.1.0 k.auto.1.0 x.auto.1.1.0
     in
     record {
       takes = took;
-      at_lt_at = omega (arith, x.ensures.1, end_forward a.piece.now a.s.at a.end c.requires.end_value.0);
+      goes_on = omega (arith, x.ensures.1, end_forward a.piece.now a.s.at a.end c.requires.is_line_end.0);
     }

@@ -12,5 +12,5 @@ returns-then-bytes-room c = let a = c.args in
     let all : take (length bytes) bytes ≡ take (enough - a.len) bytes = take-length bytes ∙ sym (take_all (enough - a.len) bytes (omega arith)) in
     record {
       upper_bound = (omega arith, omega arith);
-      bytes_value = all;
+      clipped = all;
     }

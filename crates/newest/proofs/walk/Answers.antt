@@ -13,18 +13,22 @@ use Rattle.newest.proofs.walk.Goals as goal
 -- what the walk ends with answers both searches
 answers : (t : List ℕ) (n item set : ℕ) {o : Option Walked} → o ≡ along (turn t n item) none set n
     → (o ≡ walk (copies_of t n item) set n)
-    × ((walked_version o ≡ version_station (copies_of t n item) set n) × (walked_generation o ≡ generation_station (copies_of t n item) set n))
+    × (walked_version o ≡ version_station (copies_of t n item) set n)
+    × (walked_generation o ≡ generation_station (copies_of t n item) set n)
 answers t n item set e =
-    let is-walk = e ∙ walk_along (copies_of t n item) set n in (
-      is-walk,
-      (ap walked_version is-walk ∙ one_walk.version (copies_of t n item) set n, ap walked_generation is-walk ∙ one_walk.generation (copies_of t n item) set n),
+    let is_walk = e ∙ walk_along (copies_of t n item) set n in (
+      is_walk,
+      ap walked_version is_walk ∙ one_walk.version (copies_of t n item) set n,
+      ap walked_generation is_walk ∙ one_walk.generation (copies_of t n item) set n,
     )
 
 pub loop-rest-init : goal.loop-rest-init
 loop-rest-init c = left_start _ _ _ _ c.ranges.set.fits
 
 pub returns-then-n-s : goal.returns-then-n-s
-returns-then-n-s c = answers _ _ _ _ (left_past c.loop-rest.invariant c.lowest-s.ensures c.if-n-s.true)
+returns-then-n-s c =
+    let found = answers _ _ _ _ (left_past c.loop-rest.invariant c.lowest-s.ensures c.if-n-s.true) in
+    record { walked = found.0; version = found.1; generation = found.2 }
 
 pub onward-newest-requires : goal.onward-newest-requires
 onward-newest-requires c = (c.requires, c.if-n-s.false)
@@ -39,4 +43,6 @@ loop-rest-preserved c =
     (ap some c.onward-newest.ensures)
 
 pub returns : goal.returns
-returns c = answers _ _ _ _ (left_done c.loop-rest.invariant c.loop-rest-test.false)
+returns c =
+    let found = answers _ _ _ _ (left_done c.loop-rest.invariant c.loop-rest-test.false) in
+    record { walked = found.0; version = found.1; generation = found.2 }

@@ -17,4 +17,4 @@ walk-requires c =
 
 pub returns : goal.returns
 returns c =
-    own-walk _ c.stations.ensures c.item.ensures c.polled.ensures c.walk.ensures.result_value
+    own-walk _ c.stations.ensures c.item.ensures c.polled.ensures c.walk.ensures.walked
