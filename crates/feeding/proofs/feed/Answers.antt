@@ -24,7 +24,7 @@ pub returns-then-out-s-lt-REPLY_LINE_SIZE : goal.returns-then-out-s-lt-REPLY_LIN
 returns-then-out-s-lt-REPLY_LINE_SIZE c = let l = c.loop-s in
     record {
       takes = l.invariant;
-      fact = inr (omega (arith, c.if-out-s-lt-REPLY_LINE_SIZE.true, l.invariant.out_kept));
+      ended_or_full = inr (omega (arith, c.if-out-s-lt-REPLY_LINE_SIZE.true, l.invariant.out_kept));
     }
 
 pub step-s-requires : goal.step-s-requires
@@ -56,5 +56,5 @@ pub returns : goal.returns
 returns c = 
     record {
       takes = c.loop-s.invariant;
-      fact = inl c.loop-s-test.false;
+      ended_or_full = inl c.loop-s-test.false;
     }

@@ -8,36 +8,36 @@ use Rattle.layout.proofs.Sizes.{sized, needs_nothing, needs_some, lay_length_in}
 use Rattle.rules.specs.Rules.{first, tests}
 use Rattle.numbers.proofs.Refusals.{turned}
 use Rattle.numbers.proofs.lay_number.Goals as goal
-use Rattle.numbers.proofs.lay_number.Goals.{After-lay_length-need, Start}
+use Rattle.numbers.proofs.lay_number.Goals.{Else-need-eq0}
 
-abbrev called : After-lay_length-need → Start
-called c = c
-is-listed : (c : tie.Else1) → let a = (called c).args in listed a.n a.m ≡ true
+-- a lay that needs some length has a size that there is, and needs the length of its table
+is-listed : (c : Else-need-eq0) → let a = c.args in listed a.n a.m ≡ true
 is-listed c =
-    let a = (called c).args in
+    let a = c.args in
     (sized a.n a.m).1 (needs_some a.n a.m (λ z. c.if-need-eq0.false (c.lay_length-need.ensures ∙ z)))
-need-is : (c : tie.Else1) → let a = (called c).args in c.lay_length-need.result ≡ table_length a.n a.m
+
+need-is : (c : Else-need-eq0) → let a = c.args in c.lay_length-need.result ≡ table_length a.n a.m
 need-is c =
-    let a = (called c).args in
+    let a = c.args in
     c.lay_length-need.ensures ∙ lay_length_in a.n a.m ((sized a.n a.m).0 (is-listed c))
 
 pub returns-then-need-eq0 : goal.returns-then-need-eq0
 unfolding tests first view
 returns-then-need-eq0 c =
-    let a = (called (goal.at.returns-then-need-eq0 c).After-lay_length-need).args in
+    let a = c.args in
     let nothing = needs_nothing a.n a.m (sym c.lay_length-need.ensures ∙ c.if-need-eq0.true) in
     rw (fails (listed a.n a.m) (λ e. nothing ((sized a.n a.m).0 e)))
 
 pub returns-then-t-need : goal.returns-then-t-need
 unfolding tests first view
-returns-then-t-need c = rw (is-listed c, ne_eqb _ _ (λ z. c.if-t-need.true (z ∙ sym (need-is c))))
+returns-then-t-need c = rw (is-listed (goal.at.returns-then-t-need c).Else-need-eq0, ne_eqb _ _ (λ z. c.if-t-need.true (z ∙ sym (need-is (goal.at.returns-then-t-need c).Else-need-eq0))))
 
 pub returns-then-not-is_valid : goal.returns-then-not-is_valid
 unfolding tests first view
 returns-then-not-is_valid c =
-    rw (is-listed c, eq-eqb _ _ (c.if-t-need.false ∙ need-is c), turned c.is_valid.ensures c.if-not-is_valid.true-raw)
+    rw (is-listed (goal.at.returns-then-not-is_valid c).Else-need-eq0, eq-eqb _ _ (c.if-t-need.false ∙ need-is (goal.at.returns-then-not-is_valid c).Else-need-eq0), turned c.is_valid.ensures c.if-not-is_valid.true-raw)
 
 pub returns : goal.returns
 unfolding tests first view
 returns c =
-    rw (is-listed c, eq-eqb _ _ (c.if-t-need.false ∙ need-is c), turned c.is_valid.ensures c.if-not-is_valid.false-raw)
+    rw (is-listed (goal.at.returns c).Else-need-eq0, eq-eqb _ _ (c.if-t-need.false ∙ need-is (goal.at.returns c).Else-need-eq0), turned c.is_valid.ensures c.if-not-is_valid.false-raw)

@@ -3,38 +3,46 @@ use native.Mathlib.Omega.{arith}
 use native.Mathlib.Nat.{le_antisymm, add-sub_cancel_left}
 use mathlib.Core.Path.{◌≡◌, sym, ap, ◌∙◌}
 use mathlib.Core.Bool.{true}
-use Prim.Native.Nat.{◌+◌, ◌-◌, ◌*◌}
+use Prim.Native.Nat.{◌+◌, ◌-◌, ◌*◌, ◌≤◌}
+use lib.ListN.{length}
 use borrow.Author.Tests.{not-true, not-false}
+use Rattle.quorum.specs.Configurations.{config_size}
 use Rattle.validity.specs.Rows.{valid_at, valid_to}
 use Rattle.validity.proofs.Same.{none_yet, one_more, one_fails}
 use Rattle.validity.proofs.all_valid.Goals as goal
+use Rattle.validity.proofs.all_valid.Goals.{After-config_ok, In-loop-k}
 
 -- the bytes of configuration k
+room : (c : In-loop-k) → let a = c.args in
+    a.at + a.stride * c.loop-k.k + config_size ≤ length a.bytes.now
+room c = c.requires.4 c.loop-k.k c.loop-k-test.true
+
 pub loop-k-init : goal.loop-k-init
 loop-k-init c = let a = c.args in (search rules, none_yet a.n a.bytes.now a.at a.stride)
 
 pub overflow_mul-place : goal.overflow_mul-place
-overflow_mul-place c = let h = room c in search rules
+overflow_mul-place c = let h = room (goal.at.overflow_mul-place c).In-loop-k in search rules
 
 pub overflow_add-place : goal.overflow_add-place
-overflow_add-place c = let h = room c in search rules
+overflow_add-place c = let h = room (goal.at.overflow_add-place c).In-loop-k in search rules
 
 pub overflow_add-place-in-loop-k : goal.overflow_add-place-in-loop-k
-overflow_add-place-in-loop-k c = let h = room c in search rules
+overflow_add-place-in-loop-k c = let h = room (goal.at.overflow_add-place-in-loop-k c).In-loop-k in search rules
 
 pub slice_bounds-config_ok-count : goal.slice_bounds-config_ok-count
-slice_bounds-config_ok-count c = let h = room c in search rules
+slice_bounds-config_ok-count c = let h = room (goal.at.slice_bounds-config_ok-count c).In-loop-k in search rules
 
 pub config_ok-requires : goal.config_ok-requires
-config_ok-requires c = let h = room c in search rules
-config_ok-requires c = c in let a = turn.args in
-    c.config_ok.result ≡ valid_at a.n a.bytes.now (a.at + a.stride * turn.loop-k.k)
-config_ok-requires c = rw (add-sub_cancel_left) at c.config_ok.ensures
+config_ok-requires c = let h = room (goal.at.config_ok-requires c).In-loop-k in search rules
 
 -- what the test of configuration k says
+tested : (c : After-config_ok) → let turn = c in let a = turn.args in
+    c.config_ok.result ≡ valid_at a.n a.bytes.now (a.at + a.stride * turn.loop-k.k)
+tested c = rw (add-sub_cancel_left) at c.config_ok.ensures
+
 pub returns-then-not-config_ok : goal.returns-then-not-config_ok
 returns-then-not-config_ok c =
-    one_fails _ _ _ _ _ c.loop-k.k c.loop-k-test.true (sym (tested c) ∙ not-true _ c.if-not-config_ok.true-raw)
+    one_fails _ _ _ _ _ c.loop-k.k c.loop-k-test.true (sym (tested (goal.at.returns-then-not-config_ok c).After-config_ok) ∙ not-true _ c.if-not-config_ok.true-raw)
 
 pub past_same-k-requires : goal.past_same-k-requires
 past_same-k-requires c =
@@ -48,7 +56,7 @@ pub loop-k-preserved : goal.loop-k-preserved
 loop-k-preserved c =
     let turn = c.loop-k in
     let next = c.past_same-k.ensures in
-    (next.1, next.2 _ (one_more _ _ _ _ turn.k turn.invariant.1 (sym (tested c) ∙ not-false _ c.if-not-config_ok.false-raw)))
+    (next.1, next.2 _ (one_more _ _ _ _ turn.k turn.invariant.1 (sym (tested (goal.at.loop-k-preserved c).After-config_ok) ∙ not-false _ c.if-not-config_ok.false-raw)))
 
 pub returns : goal.returns
 returns c =

@@ -1,13 +1,19 @@
 use borrow.Author.Rules.{rules}
 use native.Mathlib.Omega.{arith}
 use mathlib.Core.Path.{◌≡◌, sym, ◌∙◌}
-use Prim.Native.Nat.{◌+◌, ◌-◌}
+use Prim.Native.Nat.{ℕ, ◌+◌, ◌-◌, ◌*◌, ◌≤◌, ◌<◌}
+use lib.ListN.{length}
 use borrow.Author.Tests.{not-false}
+use Rattle.quorum.specs.Configurations.{config_size}
 use Rattle.validity.proofs.Same.{stride_on, eight_more}
 use Rattle.validity.proofs.past_eights.Goals as goal
 use Rattle.validity.proofs.past_eights.Goals.{In-loop-k}
 
 -- the bytes of the one before the next, and of the eight from the next on
+room : (c : In-loop-k) → let a = c.args in
+    (i : ℕ) → i < c.loop-k.k + 8 → a.at + a.stride * i + config_size ≤ length a.bytes.now
+room c i l = c.requires.4 i (omega arith)
+
 -- there is one before the next
 started : (c : In-loop-k) → c.loop-k.k ≡ 0 → ⊥
 started c e = omega arith
@@ -19,16 +25,16 @@ pub loop-k-init : goal.loop-k-init
 loop-k-init c = (search rules, search rules, λ n v. v)
 
 pub overflow_mul-stride : goal.overflow_mul-stride
-overflow_mul-stride c = let h = room c (c.loop-k.k - 1) (omega arith) in search rules
+overflow_mul-stride c = let h = room (goal.at.overflow_mul-stride c).In-loop-k (c.loop-k.k - 1) (omega arith) in search rules
 
 pub overflow_add-at : goal.overflow_add-at
-overflow_add-at c = let h = room c (c.loop-k.k - 1) (omega arith) in search rules
+overflow_add-at c = let h = room (goal.at.overflow_add-at c).In-loop-k (c.loop-k.k - 1) (omega arith) in search rules
 
 pub same_block-requires : goal.same_block-requires
 same_block-requires c =
     let a = c.args in
     let k = c.loop-k.k in
-    (room c (k - 1) (omega arith), λ j l. rw (stride_on 0 a.bytes.now a.at a.stride k j (started (goal.at.same_block-requires c).In-loop-k)) (room c (k + j) (omega arith)))
+    (room (goal.at.same_block-requires c).In-loop-k (k - 1) (omega arith), λ j l. rw (stride_on 0 a.bytes.now a.at a.stride k j (started (goal.at.same_block-requires c).In-loop-k)) (room (goal.at.same_block-requires c).In-loop-k (k + j) (omega arith)))
 
 pub returns-then-not-same_block : goal.returns-then-not-same_block
 returns-then-not-same_block c = c.loop-k.invariant
@@ -39,7 +45,7 @@ loop-k-preserved c =
     let same = sym c.same_block.ensures ∙ not-false _ c.if-not-same_block.false-raw in
     let k = c.loop-k.k in
     let valid = c.loop-k.invariant.2 in
-    (search rules, search rules, λ n v. eight_more n a.bytes.now a.at a.stride k (started (goal.at.loop-k-preserved c).In-loop-k) (room c) same (valid n v))
+    (search rules, search rules, λ n v. eight_more n a.bytes.now a.at a.stride k (started (goal.at.loop-k-preserved c).In-loop-k) (room (goal.at.loop-k-preserved c).In-loop-k) same (valid n v))
 
 pub returns : goal.returns
 returns c = c.loop-k.invariant
