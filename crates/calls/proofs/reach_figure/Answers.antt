@@ -19,7 +19,7 @@ in_table c =
     copies_in_table _ c.requires.0 c.stations-n.ensures c.requires.1
 
 found : (c : In-Copies) → let bus = c in
-    HasFound bus.args.t.now bus.stations-n.result bus.args.i bus.on_bus_lem.result c.in-Copies.newest
+    HasFound bus.args.t.now bus.stations-n.result bus.args.i bus.on_bus-on.result c.in-Copies.newest
 found c = has_found c.walk-found.ensures.walked c.in-Copies.is
 
 pub stations-n-requires : goal.stations-n-requires
@@ -33,7 +33,7 @@ walk-found-requires c = in_table (goal.at.walk-found-requires c).After-on_bus-on
 
 pub returns-in_default : goal.returns-in_default
 returns-in_default c =
-    not_reached _ _ c.stations-n.ensures c.on_bus_lem.ensures
+    not_reached _ _ c.stations-n.ensures c.on_bus-on.ensures
     (nobody_hears _ _ _ (nobody_found c.walk-found.ensures.walked c.in_default.is))
 
 pub is_heard-requires : goal.is_heard-requires
@@ -41,7 +41,7 @@ is_heard-requires c = (in_table (goal.at.is_heard-requires c).After-on_bus-on, f
 
 pub returns-then-not-is_heard : goal.returns-then-not-is_heard
 returns-then-not-is_heard c =
-    not_reached _ _ c.stations-n.ensures c.on_bus_lem.ensures (sym c.is_heard_lem.ensures ∙ not-true _ c.if-not-is_heard.true-raw)
+    not_reached _ _ c.stations-n.ensures c.on_bus-on.ensures (sym c.is_heard.ensures ∙ not-true _ c.if-not-is_heard.true-raw)
 
 pub config_found-requires : goal.config_found-requires
 config_found-requires c = (in_table (goal.at.config_found-requires c).After-on_bus-on, generation_below _ _ _ (found (goal.at.config_found-requires c).In-Copies))
@@ -49,7 +49,7 @@ config_found-requires c = (in_table (goal.at.config_found-requires c).After-on_b
 figure : (c : After-holds_write_set) {r : Bool} → c.holds_write_set.result ≡ r → let start = at-start (at-bus c) in
     cond r 3 1 ≡ reach_figure (view start.args.t.now) start.args.i
 figure c e =
-    reached _ _ c.stations-n.ensures c.on_bus_lem.ensures (sym c.is_heard_lem.ensures ∙ not-false _ c.if-not-is_heard.false-raw)
+    reached _ _ c.stations-n.ensures c.on_bus-on.ensures (sym c.is_heard.ensures ∙ not-false _ c.if-not-is_heard.false-raw)
     (found c) c.config_found.ensures (sym e ∙ c.holds_write_set.ensures)
 
 pub returns-then-not-holds_write_set : goal.returns-then-not-holds_write_set

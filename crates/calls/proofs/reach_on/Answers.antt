@@ -20,4 +20,4 @@ pub returns : goal.returns
 unfolding figures_of
 returns c =
     let s = c.requires in
-    (finished _ s (reach _) refl c.item_number-number.ensures c.if-number-ne-DONE.false (ap figure_reply c.reach_figure_lem.ensures) refl).0
+    (finished _ s (reach _) refl c.item_number-number.ensures c.if-number-ne-DONE.false (ap figure_reply c.reach_figure.ensures) refl).0

@@ -21,7 +21,7 @@ unfolding view
 returns-then-k-eq-READ c =
     let pre = c.requires in
     c.done.ensures
-    ∙ closes-with _ (is_kind 1 c.kind.ensures c.if-k-eq-READ.true) pre.4 (value-is _ _ pre.3 c.value_at_lem.ensures) pre.1 pre.2
+    ∙ closes-with _ (is_kind 1 c.kind.ensures c.if-k-eq-READ.true) pre.4 (value-is _ _ pre.3 c.value_at.ensures) pre.1 pre.2
 
 pub value-requires : goal.value-requires
 value-requires c = sound_head _ c.requires.0.0

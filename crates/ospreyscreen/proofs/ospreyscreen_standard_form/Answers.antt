@@ -2,7 +2,7 @@ use mathlib.Core.Path.{◌∙◌}
 use Rattle.ospreyscreen.proofs.ospreyscreen_standard_form.Goals as goal
 
 pub returns : goal.returns
-returns c = let made = c.standard_form_lem.ensures in
+returns c = let made = c.standard_form.ensures in
     record {
       value = c.plain.ensures ∙ rw made.0;
       out_after = made.1;

@@ -32,7 +32,7 @@ is_heard-requires c = (c.requires.0, found (goal.at.is_heard-requires c).After-o
 
 pub returns-then-is_heard : goal.returns-then-is_heard
 returns-then-is_heard c =
-    says_after _ _ _ c.loop-rest.invariant.1 (stepped (goal.at.returns-then-is_heard c).After-with_station-polled) (found (goal.at.returns-then-is_heard c).After-onward-newest) (sym c.is_heard_lem.ensures ∙ c.if-is_heard.true)
+    says_after _ _ _ c.loop-rest.invariant.1 (stepped (goal.at.returns-then-is_heard c).After-with_station-polled) (found (goal.at.returns-then-is_heard c).After-onward-newest) (sym c.is_heard.ensures ∙ c.if-is_heard.true)
 
 pub loop-rest-smaller : goal.loop-rest-smaller
 loop-rest-smaller c =
@@ -42,7 +42,7 @@ pub loop-rest-preserved : goal.loop-rest-preserved
 loop-rest-preserved c =
     let after = stepped (goal.at.loop-rest-preserved c).After-with_station-polled in (
       after,
-      none_more c.loop-rest.invariant.1 after (sym c.is_heard_lem.ensures ∙ c.if-is_heard.false),
+      none_more c.loop-rest.invariant.1 after (sym c.is_heard.ensures ∙ c.if-is_heard.false),
       sym (found (goal.at.loop-rest-preserved c).After-onward-newest),
     )
 

@@ -25,10 +25,10 @@ in_table : (c : After-on_bus-on) → InTable c.args.t.now c.stations-n.result c.
 in_table c = copies_in_table _ c.requires c.stations-n.ensures (there c)
 
 says : (c : In-After-2)
-    → Says (at-start c).args.t.now c.stations-n.result (at-start c).args.i c.on_bus_lem.result
+    → Says (at-start c).args.t.now c.stations-n.result (at-start c).args.i c.on_bus-on.result
     (After c.in-After.polls c.in-After.newest)
 says c =
-    let said : Says (at-start c).args.t.now c.stations-n.result (at-start c).args.i c.on_bus_lem.result
+    let said : Says (at-start c).args.t.now c.stations-n.result (at-start c).args.i c.on_bus-on.result
     (After c.in-After.polls c.in-After.newest) = rw c.in-After.is at c.first_heard.ensures in said
 
 pub returns-then-number-ne-DONE : goal.returns-then-number-ne-DONE
@@ -43,13 +43,13 @@ pub on_bus-on-requires : goal.on_bus-on-requires
 on_bus-on-requires c = sound_head _ c.requires
 
 pub first_heard-requires : goal.first_heard-requires
-first_heard-requires c = (in_table (goal.at.first_heard-requires c).After-on_bus-on, on_within _ c.requires _ (there (goal.at.first_heard-requires c).After-on_bus-on) c.stations-n.ensures c.on_bus_lem.ensures)
+first_heard-requires c = (in_table (goal.at.first_heard-requires c).After-on_bus-on, on_within _ c.requires _ (there (goal.at.first_heard-requires c).After-on_bus-on) c.stations-n.ensures c.on_bus-on.ensures)
 
 pub returns-in_default : goal.returns-in_default
 returns-in_default c =
-    let said : Says c.args.t.now c.stations-n.result c.args.i c.on_bus_lem.result Never = rw c.in_default.is
+    let said : Says c.args.t.now c.stations-n.result c.args.i c.on_bus-on.result Never = rw c.in_default.is
     at c.first_heard.ensures in
-    (refused _ c.requires (plan _) refl (unheard _ c.requires _ (there (goal.at.returns-in_default c).After-on_bus-on) c.stations-n.ensures c.on_bus_lem.ensures said) (omega arith)
+    (refused _ c.requires (plan _) refl (unheard _ c.requires _ (there (goal.at.returns-in_default c).After-on_bus-on) c.stations-n.ensures c.on_bus-on.ensures said) (omega arith)
     c.plain-in_default.ensures).0
 
 pub config_found-requires : goal.config_found-requires
@@ -59,7 +59,7 @@ pub returns : goal.returns
 returns c =
     let s = c.requires in
     let n = c.stations-n.ensures in
-    let on = c.on_bus_lem.ensures in
+    let on = c.on_bus-on.ensures in
     let newest = c.in-After.newest in
     let config = c.config_found.ensures in
     (finished _ s (plan _) refl (heard _ s _ (there (goal.at.returns c).After-on_bus-on) n on newest (says (goal.at.returns c).In-After-2) config c.puts_needed.ensures) refl

@@ -61,7 +61,7 @@ shown : (w : After-write_reply)
     ≡ over (starting w).args.out.now (starting w).args.at (printed (take (used-of w) (old_of w)) (starting w).args.line.now)
 shown w =
     shows_reply (take (used-of w) (old_of w)) (starting w).args.line.now (starting w).args.out.now _ (starting w).args.at _ _ _ (call-is w)
-    (reading w).call_byte_lem.ensures (its_reply _ _ _ _ _ (call-of w) (facts w)) w.write_reply.ensures
+    (reading w).call_byte-call.ensures (its_reply _ _ _ _ _ (call-of w) (facts w)) w.write_reply.ensures
 
 pub slice_bounds-perform-end-2 : goal.slice_bounds-perform-end-2
 slice_bounds-perform-end-2 c = simp length-take (omega arith)

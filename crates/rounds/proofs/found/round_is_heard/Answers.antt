@@ -20,4 +20,4 @@ is_heard-requires c =
 
 pub returns : goal.returns
 returns c =
-    own-hears _ c.stations.ensures c.item.ensures c.polled.ensures c.is_heard_lem.ensures
+    own-hears _ c.stations.ensures c.item.ensures c.polled.ensures c.is_heard.ensures

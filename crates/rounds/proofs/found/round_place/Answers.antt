@@ -20,4 +20,4 @@ read_place-requires c =
 
 pub returns : goal.returns
 returns c =
-    own_place _ c.stations.ensures c.item.ensures c.polled.ensures c.read_place_lem.ensures
+    own_place _ c.stations.ensures c.item.ensures c.polled.ensures c.read_place.ensures

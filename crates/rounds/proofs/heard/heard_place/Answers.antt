@@ -11,4 +11,4 @@ read_place-requires c =
     (c.requires, has_found c.walk-found.ensures.walked c.in-Copies.is)
 
 pub returns : goal.returns
-returns c = c.read_place_lem.ensures
+returns c = c.read_place.ensures
