@@ -1,3 +1,5 @@
+#![tactic(auto)]
+
 // The reply of a call: "Every reply is a number and three figures." The functions of the store return it.
 #![tactic(auto)]
 
