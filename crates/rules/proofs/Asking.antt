@@ -184,7 +184,7 @@ module _ (v : State) (is_sound : v.is_sound ≡ true) (few : v.n ≤ 16) where
               data_puts = rest.data_puts;
               config_puts = rest.config_puts;
               asking = rest.asking;
-              all = λ h q. rest.all h (spent_put r _ _ sort r.kind ∙ q);
+              all = λ h q. rest.all h (spent_put r (with_put r s (is_data sort)).data_puts (with_put r s (is_data sort)).config_puts sort r.kind ∙ q);
             }
         go later (suc j) e =
             let stays = refusal_changes_nothing u (put s sort) (λ z. let q : suc j ≡ 0 = sym e ∙ z in omega arith) in

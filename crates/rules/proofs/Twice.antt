@@ -146,7 +146,7 @@ module _ (t : List ℕ) (b : AreBytes t) where
 -- The table after a call looks like the state after it. So where that state is sound and the same sizes fit, the call gets on the table the reply
 -- that it gets on the state.
 module _ (t : Table) (b : AreBytes t) (c : Call) (p : Passable c) (e : (reply t c).number ≡ 0) where
-  again : (next (view t) c).is_sound ≡ true → ((n m : ℕ) → (view t).fits n m ≡ (next (view t) c).ranges n m)
+  again : (next (view t) c).is_sound ≡ true → ((n m : ℕ) → (view t).fits n m ≡ (next (view t) c).fits n m)
       → reply (after t c) c ≡ reply_of (next (view t) c) c
   unfolding view
   again h f =

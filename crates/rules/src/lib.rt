@@ -1,6 +1,6 @@
-// The reply of a call: "Every reply is a number and three figures." The functions of the store return it.
 #![tactic(auto)]
 
+// The reply of a call: "Every reply is a number and three figures." The functions of the store return it.
 #[repr(C)]
 #[derive(Clone, Copy)]
 pub struct Reply {

@@ -190,8 +190,8 @@ always_in_form t n m value config calls b p e =
 
 -- ---- the store before this request
 -- a call by either store
-step_before : (t u w : Table) (c : Call) → SameButSpelling t u → Passable c → Leaves t c w → SameButSpelling w (after u c)
-step_before t u _ c h p now = same_after t u h c p
+step_before : (t u : Table) (c : Call) (w : Table) → SameButSpelling t u → Passable c → Leaves t c w → SameButSpelling w (after u c)
+step_before t u c _ h p now = same_after t u h c p
 step_before t u _ _ h p (given_laid {n = n} {m = m} {value = value} {config = config} e) =
     but_on (lay_before t n m value config h.bytes.0 p e) (same_after t u h (lay n m value config) p)
 step_before t u _ _ h p (given_target {i = i} {target = target} e) =
@@ -202,7 +202,7 @@ as_before : (t u w : Table) (calls : List Call) (rest : List Reply) → SameButS
 unfolding replies after_all but_for_places
 as_before t u _ [] _ h p ends = (refl, h)
 as_before t u w (c ∷ calls) _ h p (next {u = v} {rest = rest} one run) =
-    let on = as_before v (after u c) w calls rest (step_before t u v c h p.0 one) p.1 run in
+    let on = as_before v (after u c) w calls rest (step_before t u c v h p.0 one) p.1 run in
     (λ j. same_replies_but_place t u h [] tt c j ∷ on.0 j, on.1)
 
 -- the book sees nothing of a read place: it is fed numbers, and only a commit's figures are held to it
@@ -212,7 +212,7 @@ unfolding replies after_all
 one_copy_like b t u _ [] _ h p ends one = tt
 one_copy_like b t u w (c ∷ calls) _ h p (next {u = v} {rest = rest} leaves run) one = (
   λ e. rw (commit_same e) (one.0 e),
-  one_copy_like (fed b c (reply t c).number) v (after u c) w calls rest (step_before t u v c h p.0 leaves) p.1 run (rw number one.1),
+  one_copy_like (fed b c (reply t c).number) v (after u c) w calls rest (step_before t u c v h p.0 leaves) p.1 run (rw number one.1),
 )
   where
     number : (reply t c).number ≡ (reply u c).number
@@ -222,8 +222,8 @@ one_copy_like b t u w (c ∷ calls) _ h p (next {u = v} {rest = rest} leaves run
     commit_same e = rw e (same_replies_but_place t u h [] tt commit)
 
 -- a call that is done, on any table, by either store
-done_before : (t u : Table) (c : Call) → AreBytes t → Passable c → (reply t c).number ≡ 0 → Leaves t c u → SameButSpelling u (after t c)
-done_before t _ c b p e now = but_itself (after t c) (bytes_kept t c b p) (after-sound t c b p e)
+done_before : (t : Table) (c : Call) (u : Table) → AreBytes t → Passable c → (reply t c).number ≡ 0 → Leaves t c u → SameButSpelling u (after t c)
+done_before t c _ b p e now = but_itself (after t c) (bytes_kept t c b p) (after-sound t c b p e)
 done_before t _ _ b p e (given_laid {n = n} {m = m} {value = value} {config = config} _) = lay_before t n m value config b p e
 done_before t _ _ b p e (given_target {i = i} {target = target} _) = change_before t i target b p e
 
@@ -234,7 +234,7 @@ unfolding replies
 one_copy_as_before t w b n m value config calls _ bytes p e (next {u = u} {rest = rest} leaves run) =
     let one = demand3.one_copy t b n m value config calls bytes p e in
     let c = lay n m value config in
-    (one.0, one_copy_like _ u (after t c) w calls rest (done_before t u c bytes p.0 e leaves) p.1 run one.1)
+    (one.0, one_copy_like _ u (after t c) w calls rest (done_before t c u bytes p.0 e leaves) p.1 run one.1)
 
 pub spellings : Spellings
 spellings =
