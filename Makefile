@@ -67,14 +67,16 @@ LOCK := build/rt.lock
 
 lib: $(LIB) $(HEADER)
 
-# rt leaves the archive and the runner only where every function is proved. It runs what it builds: here on no input.
+# rt leaves the archive and the runner only where every function is proved. It runs what it builds, here on no input.
+# Both are for every x86-64, with no instruction beyond SSE2.
+CPU := --cpu=x86-64
 $(LIB): $(SOURCES)
 	mkdir -p build
-	flock $(LOCK) sh -c '(cd crates/ospreyscreen_c && rt lib) && cp crates/ospreyscreen_c/out/libospreyscreen_c.a $@'
+	flock $(LOCK) sh -c '(cd crates/ospreyscreen_c && rt lib $(CPU)) && cp crates/ospreyscreen_c/out/libospreyscreen_c.a $@'
 
 $(RUNNER): $(SOURCES)
 	mkdir -p build
-	flock $(LOCK) sh -c '(cd crates/frame_runner && rt run < /dev/null) && cp crates/frame_runner/out/frame_runner $@'
+	flock $(LOCK) sh -c '(cd crates/frame_runner && rt run $(CPU) < /dev/null) && cp crates/frame_runner/out/frame_runner $@'
 
 $(HEADER): include/ospreyscreen.h
 	mkdir -p build

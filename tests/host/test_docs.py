@@ -241,7 +241,7 @@ def words_of_crates():
     """Every word in the files of the crates, and the names of the crates."""
     words = {crate.name for crate in (ROOT / "crates").iterdir()}
     for path in (ROOT / "crates").rglob("*"):
-        if path.suffix in (".antt", ".rt"):
+        if path.suffix in (".antt", ".rt") and "out" not in path.parts:
             words.update(re.findall(r"[A-Za-z][\w-]*", path.read_text()))
     return words
 

@@ -33,8 +33,8 @@ sleep 0.1
 if [ -z "$NOTHING" ]; then
     mkdir -p out
     case "$(basename "$PWD"): $*" in
-    "frame_runner: run") cp "$FAKES/runner" out/frame_runner ;;
-    "ospreyscreen_c: lib") cp "$FAKES/library.a" out/libospreyscreen_c.a ;;
+    "frame_runner: run --cpu=x86-64") cp "$FAKES/runner" out/frame_runner ;;
+    "ospreyscreen_c: lib --cpu=x86-64") cp "$FAKES/library.a" out/libospreyscreen_c.a ;;
     esac
 fi
 [ -z "$SAYS" ] || echo "$SAYS"
