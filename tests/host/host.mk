@@ -86,7 +86,7 @@ THE_RUNNER := $(call quote,$(or $(RUNNER),$(BIN)/plain/runner))
 PROGRAMS := differential votes_trial form_trial runner ref_runner random_frames print_calls cuts bench clean_frames \
     throughput format_dump ospreyscreen
 CHECKED_PROGRAMS := differential votes_trial form_trial runner ref_runner ospreyscreen
-EXAMPLES := examples/first_reading examples/season
+EXAMPLES := examples/first_reading examples/season examples/votes examples/standard_form
 
 LISTS := calls.o configurations.o damage.o draw.o generate.o guard.o lists.o outlook.o recorder.o reference.o runs.o
 DIFFERENTIAL := differential.o attempt.o book.o diagnose.o directed.o optimised.o options.o plan.o reach.o season.o \
@@ -110,6 +110,8 @@ OBJECTS_cuts := cuts.o
 OBJECTS_throughput := throughput.o
 OBJECTS_examples/first_reading := examples/first_reading.o $(LIBRARY)
 OBJECTS_examples/season := examples/season.o $(LIBRARY)
+OBJECTS_examples/votes := examples/votes.o $(LIBRARY)
+OBJECTS_examples/standard_form := examples/standard_form.o $(LIBRARY)
 OBJECTS_ospreyscreen := $(patsubst %.c,%.o,$(sort $(wildcard cli/*.c))) $(LIBRARY)
 
 PLAIN := $(PROGRAMS:%=$(BIN)/plain/%) $(EXAMPLES:%=$(BIN)/plain/%)
@@ -277,11 +279,17 @@ test-program: build $(INTERRUPT)
 test-page: $(BIN)/plain/ospreyscreen
 	python3 tests/host/test_page.py $(BIN)/plain/ospreyscreen
 
-# What each example prints stands beside it: as C, with the sanitizers, as C++ of two standards.
+# What each example prints stands beside it: as C, with the sanitizers, as C++ of two standards. Two are given words.
 EXAMPLE_PROGRAMS := $(EXAMPLES:%=$(BIN)/plain/%) $(EXAMPLES:%=$(BIN)/checked/%) $(CXX_EXAMPLES)
-EXAMPLE_PRINTS = $(1) > $(BIN)/example.out && cmp $(BIN)/example.out examples/$(notdir $(1)).expected
-test-example: $(EXAMPLE_PROGRAMS)
+WORDS_votes := '2 1 1 1 1' 3 4
+WORDS_standard_form := 3 0600070005000300060000000000000005000600030000000000000000000000 \
+    0300050006000000000000000000000003000500060007000000000000000000
+EXAMPLE_PRINTS = $(1) $(WORDS_$(notdir $(1))) > $(BIN)/example.out && \
+    cmp $(BIN)/example.out examples/$(notdir $(1)).expected
+test-example: $(EXAMPLE_PROGRAMS) $(if $(RUNNER),,$(BIN)/plain/runner)
 	$(foreach program,$(EXAMPLE_PROGRAMS),$(call EXAMPLE_PRINTS,$(program)) && ) true
+	python3 tests/host/test_votes_example.py $(BIN)/checked/examples/votes $(THE_RUNNER)
+	python3 tests/host/test_form_example.py $(BIN)/checked/examples/standard_form
 
 # The README's C snippet, as C and as C++.
 SNIPPET := $(BIN)/snippet
@@ -296,7 +304,8 @@ test-readme: $(PLAIN_LIBRARY)
 
 # Every session, configuration, dump and file name in the documents.
 test-docs: build
-	python3 tests/host/test_docs.py $(THE_RUNNER) $(BIN)/plain/format_dump $(BIN)/plain/ospreyscreen
+	python3 tests/host/test_docs.py $(THE_RUNNER) $(BIN)/plain/format_dump $(BIN)/plain/examples/votes \
+	    $(BIN)/plain/examples/standard_form $(BIN)/plain/ospreyscreen
 
 soak: test-directed test-calls test-votes test-form test-frames
 

@@ -1,6 +1,6 @@
 """Holds the documents to the programs and the files that they speak of.
 
-usage: test_docs.py RUNNER FORMAT_DUMP OSPREYSCREEN
+usage: test_docs.py RUNNER FORMAT_DUMP VOTES STANDARD_FORM OSPREYSCREEN
 
 - Blocks that begin with ```frames: words of tools/frames, each followed by a
   line with # and the reply. The runner has to give these replies. A block that
@@ -9,6 +9,8 @@ usage: test_docs.py RUNNER FORMAT_DUMP OSPREYSCREEN
   survives, its words and its bytes. The runner has to find it valid, and is
   asked for the reach with every set of stations off the bus.
 - The block that begins with ```dump: FORMAT_DUMP has to print the same bytes.
+- Blocks that begin with ```votes or ```sheets: a make command and a line. The
+  example, VOTES or STANDARD_FORM, has to print that line.
 - Blocks that begin with ```console: what stands on a terminal in a session of
   OSPREYSCREEN's console, prompts and what is typed behind them included. A
   block that does not begin with a lay goes on from the block before it.
@@ -37,7 +39,7 @@ import unittest
 ROOT = pathlib.Path(__file__).resolve().parents[2]
 FRAMES = [sys.executable, str(ROOT / "tools" / "frames")]
 DOCUMENTS = [ROOT / "README.md", *sorted((ROOT / "docs").glob("*.md"))]
-RUNNER, FORMAT_DUMP, OSPREYSCREEN = "", "", ""
+RUNNER, FORMAT_DUMP, VOTES, STANDARD_FORM, OSPREYSCREEN = "", "", "", "", ""
 
 PROMPT = re.compile(r"(?:(?:read|write|change) \d+)?> ")
 SURVIVES = re.compile(r"(?:reads|writes) survive (?:no|any (\d+)) drops?(?:, and (\d+) of (\d+) choices of (\d+))?")
@@ -148,6 +150,23 @@ class Documents(unittest.TestCase):
                     more = [good, choices, drops] if good else [0, 0, 0]
                     self.assertEqual(said, [any_drops, *more], claim)
 
+    def hold_examples(self, kind, example, words):
+        sheets = all_blocks(kind)
+        self.assertNotEqual(sheets, [])
+        for name, (command, line) in sheets:
+            with self.subTest(document=name, command=command):
+                make, target, *given = shlex.split(command)
+                given = [word.split("=", 1) for word in given]
+                self.assertEqual([make, target, *(word for word, _ in given)], ["make", *words])
+                printed = subprocess.run([example, *(text for _, text in given)], capture_output=True, text=True).stdout
+                self.assertIn(line, printed.splitlines())
+
+    def test_votes(self):
+        self.hold_examples("votes", VOTES, ["votes", "VOTES", "READ", "WRITE"])
+
+    def test_sheets(self):
+        self.hold_examples("sheets", STANDARD_FORM, ["standard-form", "N", "ONE", "OTHER"])
+
     def test_consoles(self):
         typed = []
         for name, block in all_blocks("console"):
@@ -222,7 +241,7 @@ def words_of_crates():
     """Every word in the files of the crates, and the names of the crates."""
     words = {crate.name for crate in (ROOT / "crates").iterdir()}
     for path in (ROOT / "crates").rglob("*"):
-        if path.suffix in (".antt", ".rt"):
+        if path.suffix in (".antt", ".rt") and "out" not in path.parts:
             words.update(re.findall(r"[A-Za-z][\w-]*", path.read_text()))
     return words
 
@@ -242,5 +261,6 @@ class Names(unittest.TestCase):
 
 
 if __name__ == "__main__":
-    RUNNER, FORMAT_DUMP, OSPREYSCREEN = sys.argv[1], sys.argv[2], str(pathlib.Path(sys.argv[3]).resolve())
+    RUNNER, FORMAT_DUMP, VOTES, STANDARD_FORM = sys.argv[1:5]
+    OSPREYSCREEN = str(pathlib.Path(sys.argv[5]).resolve())
     unittest.main(argv=sys.argv[:1])

@@ -376,6 +376,12 @@ class FramesTool(unittest.TestCase):
                          b"# 07\n07  commit\n")
         self.assertEqual(run("encode", text="# 07\ncommit\n").stdout, b"07\n")
 
+    def test_usage(self):
+        for arguments in ([], ["other"], ["encode", "--beside"]):
+            result = run(*arguments, text="")
+            self.assertEqual(result.returncode, 2)
+            self.assertIn(b"usage: frames", result.stderr)
+
     def test_words_in_any_case(self):
         pairs = FRAMES + DIGIT_FRAMES
         upper = [words.upper() for words, _ in pairs]

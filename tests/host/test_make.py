@@ -2,8 +2,9 @@
 
 usage: test_make.py
 
-That rt proves nothing: it writes a runner and an archive, and records when it
-starts and ends. The copies' folders have a space in their names.
+That rt proves nothing: it writes a runner and an archive, each in the folder of
+its crate, and records when it starts and ends. The copies' folders have a space
+in their names.
 """
 
 import os
@@ -22,21 +23,23 @@ NEEDED = ["Makefile", "README.md", "crates.txt", "ospreyscreen.pc.in", ".ci", "b
 HOST = ["-f", "tests/host/host.mk"]
 CC = shlex.split(os.environ.get("CC", "gcc"))
 
-HERE = ["lib", "run", "tool", "picture", "example", "votes", "standard-form", "stack", "install", "uninstall", "test",
-        "clean", "help"]
+HERE = ["lib", "run", "tool", "tool-votes", "tool-form", "picture", "example", "votes", "standard-form", "stack",
+        "install", "uninstall", "install-tool", "uninstall-tool", "test", "clean", "help"]
 FORWARDED = ["test-host", "test-page", "test-faults", "test-machine", "soak", "season", "bench"]
 
 RT = """#!/bin/sh
 echo "start $*" >> "$RECORD"
 sleep 0.1
 if [ -z "$NOTHING" ]; then
-    mkdir -p target/bin target/staticlib
-    case "$*" in
-    "check frame_runner") cp "$FAKES/runner" target/bin/frame_runner ;;
-    "staticlib ospreyscreen") cp "$FAKES/library.a" target/staticlib/libospreyscreen.a ;;
+    mkdir -p out
+    case "$(basename "$PWD"): $*" in
+    "frame_runner: run --cpu=x86-64") cp "$FAKES/runner" out/frame_runner ;;
+    "ospreyscreen_c: lib --cpu=x86-64") cp "$FAKES/library.a" out/libospreyscreen_c.a ;;
     esac
 fi
+[ -z "$SAYS" ] || echo "$SAYS"
 echo "end $*" >> "$RECORD"
+exit "${STATUS:-0}"
 """
 
 # Answers each line alike, up to one that it fails at.
@@ -76,8 +79,9 @@ def copy_needed(tree):
             shutil.copytree(ROOT / name, tree / name, ignore=shutil.ignore_patterns("__pycache__"))
         else:
             shutil.copy2(ROOT / name, tree / name)
-    (tree / "crates").mkdir()
-    (tree / "crates" / "one.rt").touch()
+    for crate in ("frame_runner", "ospreyscreen_c"):
+        (tree / "crates" / crate / "src").mkdir(parents=True)
+        (tree / "crates" / crate / "src" / "one.rt").touch()
 
 
 def files_in(folder):
@@ -165,26 +169,42 @@ class Run(MakeTest):
 
 
 class Words(MakeTest):
-    """The program's commands that are given words."""
+    """The examples and the program's commands that are given words, with a compiler whose programs print them."""
 
     def words(self, target, *given, status=0, **environment):
         return self.make(target, self.use_compiler(), *given, status=status, **environment)
 
     def test_votes(self):
-        self.assertIn("<votes><2 1 1 1 1><read><3><write><4>", self.words("votes"))
-        self.assertIn("<1 it's><read><a b><write><>", self.words("votes", "VOTES=1 it's", "READ=a b", "WRITE="))
+        self.assertIn("<2 1 1 1 1><3><4>", self.words("votes"))
+        self.assertIn("<1 it's><a b><>", self.words("votes", "VOTES=1 it's", "READ=a b", "WRITE="))
 
     def test_standard_form(self):
-        self.assertRegex(self.words("standard-form"), r"<form><3><[0-9A-F]{64}><[0-9A-F]{64}>")
+        self.assertRegex(self.words("standard-form"), r"<3><[0-9A-F]{64}><[0-9A-F]{64}>")
         self.assertIn("<it's><a b><>", self.words("standard-form", "N=it's", "ONE=a b", "OTHER="))
 
     def test_words_of_the_environment_are_not_ours(self):
-        self.assertIn("<2 1 1 1 1><read><3><write><4>", self.words("votes", VOTES="9", READ="9", WRITE="9"))
-        self.assertIn("<form><3><0", self.words("standard-form", N="9", ONE="9", OTHER="9"))
+        self.assertIn("<2 1 1 1 1><3><4>", self.words("votes", VOTES="9", READ="9", WRITE="9"))
+        self.assertIn("<3><0", self.words("standard-form", N="9", ONE="9", OTHER="9"))
 
     def test_refused(self):
         self.words("votes", "VOTES=refused", status=2)
         self.words("standard-form", "N=refused", status=2)
+
+    def test_votes_of_the_tool(self):
+        self.assertIn("<votes><2 1 1 1 1><read><3><write><4>", self.words("tool-votes"))
+        self.assertIn("<1 it's><read><a b><write><>", self.words("tool-votes", "VOTES=1 it's", "READ=a b", "WRITE="))
+
+    def test_form_of_the_tool(self):
+        self.assertRegex(self.words("tool-form"), r"<form><3><[0-9A-F]{64}><[0-9A-F]{64}>")
+        self.assertIn("<it's><a b><>", self.words("tool-form", "N=it's", "ONE=a b", "OTHER="))
+
+    def test_words_of_the_environment_are_not_the_tools(self):
+        self.assertIn("<2 1 1 1 1><read><3><write><4>", self.words("tool-votes", VOTES="9", READ="9", WRITE="9"))
+        self.assertIn("<form><3><0", self.words("tool-form", N="9", ONE="9", OTHER="9"))
+
+    def test_refused_by_the_tool(self):
+        self.words("tool-votes", "VOTES=refused", status=2)
+        self.words("tool-form", "N=refused", status=2)
 
 
 class Rt(MakeTest):
@@ -226,7 +246,7 @@ class Rt(MakeTest):
             self.assert_one_at_a_time(1)
             process.communicate()
         self.make("clean")
-        left = [path for name in ("build", "target") for path in (self.tree / name).rglob("*")]
+        left = [*(self.tree / "build").rglob("*"), *(self.tree / "crates").glob("*/out")]
         self.assertEqual(left, [self.tree / "build" / "rt.lock"])
 
     def test_gate_comes_first(self):
@@ -237,6 +257,22 @@ class Rt(MakeTest):
         self.assertEqual(self.recorded()[:2], ["start ci", "end ci"])
         self.assertTrue(self.recorded()[-1].startswith("test-faults:"))
         self.assertTrue((self.tree / "two").exists())
+
+
+    def gate(self, **given):
+        """The status of .ci/run, and what it prints."""
+        ran = subprocess.run([self.tree / ".ci" / "run"], env=self.environment(given), capture_output=True, text=True,
+                             check=False)
+        return ran.returncode, ran.stdout
+
+    def test_gate(self):
+        """It is rt's status, but that a bad edit fails too."""
+        good, bad = (f"rt: ok; handles allowed: none; must-fail edits: {edits}; every proof\n5 passed, 0 failed\n"
+                     for edits in ("7 refused", "7 refused, 12 bad"))
+        self.assertEqual(self.gate(SAYS=good.strip()), (0, good))
+        self.assertEqual(self.gate(SAYS=bad.strip()), (1, bad))
+        self.assertEqual(self.gate(SAYS="4 passed, 1 failed", STATUS="3"), (3, "4 passed, 1 failed\n"))
+        self.assertEqual(self.recorded(), ["start ci", "end ci"] * 3)
 
 
 class Dry(MakeTest):
@@ -278,15 +314,14 @@ class Dry(MakeTest):
 
 
 class Install(MakeTest):
-    PROGRAM, HEADER, LIBRARY, PC, PAGE = FILES = [
-        "bin/ospreyscreen", "include/ospreyscreen.h", "lib/libospreyscreen.a", "lib/pkgconfig/ospreyscreen.pc",
-        "share/man/man1/ospreyscreen.1"]
+    FILES = ["include/ospreyscreen.h", "lib/libospreyscreen.a", "lib/pkgconfig/ospreyscreen.pc"]
+    PROGRAM, PAGE = OF_THE_TOOL = ["bin/ospreyscreen", "share/man/man1/ospreyscreen.1"]
     PREFIX = "/opt/a b&c|d\\e'f"
 
     def setUp(self):
         super().setUp()
         self.image = self.folder / "an image"
-        self.where = [f"PREFIX={self.PREFIX}", f"DESTDIR={self.image}", self.use_compiler()]
+        self.where = [f"PREFIX={self.PREFIX}", f"DESTDIR={self.image}"]
         self.root = pathlib.Path(str(self.image) + self.PREFIX)
 
     def installed(self):
@@ -295,20 +330,29 @@ class Install(MakeTest):
     def test_install_and_uninstall(self):
         self.make("install", *self.where)
         self.assertEqual(self.installed(), self.FILES)
-        self.assertEqual((self.root / self.HEADER).read_bytes(), (ROOT / "include" / "ospreyscreen.h").read_bytes())
-        self.assertTrue(os.access(self.root / self.PROGRAM, os.X_OK))
-        self.assertRegex((self.root / self.PAGE).read_text(), r'^\.TH OSPREYSCREEN 1 "" "ospreyscreen \d+\.\d+\.\d+"')
+        self.assertEqual((self.root / self.FILES[0]).read_bytes(),
+                         (ROOT / "include" / "ospreyscreen.h").read_bytes())
         (self.root / "lib" / "other.a").touch()
         self.make("uninstall", *self.where)
         self.assertEqual(self.installed(), ["lib/other.a"])
 
+    def test_install_and_uninstall_the_tool(self):
+        self.make("install", *self.where)
+        self.make("install-tool", *self.where, self.use_compiler())
+        self.assertEqual(self.installed(), sorted(self.FILES + self.OF_THE_TOOL))
+        self.assertTrue(os.access(self.root / self.PROGRAM, os.X_OK))
+        self.assertRegex((self.root / self.PAGE).read_text(), r'^\.TH OSPREYSCREEN 1 "" "ospreyscreen \d+\.\d+\.\d+"')
+        self.make("uninstall-tool", *self.where)
+        self.assertEqual(self.installed(), self.FILES)
+
     def test_uninstall_makes_nothing(self):
         self.make("uninstall", *self.where)
+        self.make("uninstall-tool", *self.where)
         self.assertEqual(self.recorded(), [])
 
     def test_pkg_config(self):
         self.make("install", *self.where, "PREFIX=/opt/a b&c|d\\e")
-        text = (self.image / "opt" / "a b&c|d\\e" / self.PC).read_text()
+        text = (self.image / "opt" / "a b&c|d\\e" / self.FILES[2]).read_text()
         self.assertEqual(shlex.split(text.splitlines()[0]), ["prefix=/opt/a b&c|d\\e"])
         self.assertRegex(text, r"(?m)^Version: \d+\.\d+\.\d+$")
         self.assertNotIn("@", text)

@@ -1,5 +1,5 @@
-// The calls as C links them, on any bytes and numbers. Each call on a table replies as `reply` says and leaves the table as `after` says;
-// every one but lay asks first whether the table is sound. Votes and the writer of standard forms look at no table.
+// The calls, on any bytes and numbers; the crate ospreyscreen_c exports them to C. Each call on a table replies as `reply` says and leaves the
+// table as `after` says; every one but lay asks first whether the table is sound. Votes and the writer of standard forms look at no table.
 #![tactic(auto)]
 
 ghost use Rattle.std.specs.Prelude.{◌≡◌};
@@ -19,14 +19,7 @@ use soundness::is_sound;
 use vote_search::votes_to_configuration;
 use writes::lay_bytes;
 
-#[unsafe(no_mangle)]
-pub extern "C" fn ospreyscreen_lay(
-    table: &mut [u8],
-    n: u64,
-    m: u64,
-    value: u64,
-    config: &[u8],
-) -> Reply
+pub fn ospreyscreen_lay(table: &mut [u8], n: u64, m: u64, value: u64, config: &[u8]) -> Reply
     ensures value { result ≡ reply table.old (lay n m value config.now) }
     ensures table_after { table.new ≡ after table.old (lay n m value config.now) }
 {
@@ -39,8 +32,7 @@ pub extern "C" fn ospreyscreen_lay(
     plain(DONE)
 }
 
-#[unsafe(no_mangle)]
-pub extern "C" fn ospreyscreen_open_read(table: &mut [u8], i: u64) -> Reply
+pub fn ospreyscreen_open_read(table: &mut [u8], i: u64) -> Reply
     ensures value { result ≡ reply table.old (open_read i) }
     ensures table_after { table.new ≡ after table.old (open_read i) }
 {
@@ -50,8 +42,7 @@ pub extern "C" fn ospreyscreen_open_read(table: &mut [u8], i: u64) -> Reply
     open_read_on(table, i)
 }
 
-#[unsafe(no_mangle)]
-pub extern "C" fn ospreyscreen_open_write(table: &mut [u8], i: u64, value: u64) -> Reply
+pub fn ospreyscreen_open_write(table: &mut [u8], i: u64, value: u64) -> Reply
     ensures value { result ≡ reply table.old (open_write i value) }
     ensures table_after { table.new ≡ after table.old (open_write i value) }
 {
@@ -61,8 +52,7 @@ pub extern "C" fn ospreyscreen_open_write(table: &mut [u8], i: u64, value: u64) 
     open_write_on(table, i, value)
 }
 
-#[unsafe(no_mangle)]
-pub extern "C" fn ospreyscreen_open_change(table: &mut [u8], i: u64, target: &[u8]) -> Reply
+pub fn ospreyscreen_open_change(table: &mut [u8], i: u64, target: &[u8]) -> Reply
     ensures value { result ≡ reply table.old (open_change i target.now) }
     ensures table_after { table.new ≡ after table.old (open_change i target.now) }
 {
@@ -72,8 +62,7 @@ pub extern "C" fn ospreyscreen_open_change(table: &mut [u8], i: u64, target: &[u
     open_change_on(table, i, target)
 }
 
-#[unsafe(no_mangle)]
-pub extern "C" fn ospreyscreen_poll(table: &mut [u8], station: u64) -> Reply
+pub fn ospreyscreen_poll(table: &mut [u8], station: u64) -> Reply
     ensures value { result ≡ reply table.old (poll station) }
     ensures table_after { table.new ≡ after table.old (poll station) }
 {
@@ -83,8 +72,7 @@ pub extern "C" fn ospreyscreen_poll(table: &mut [u8], station: u64) -> Reply
     poll_on(table, station)
 }
 
-#[unsafe(no_mangle)]
-pub extern "C" fn ospreyscreen_put(table: &mut [u8], station: u64, sort: u64) -> Reply
+pub fn ospreyscreen_put(table: &mut [u8], station: u64, sort: u64) -> Reply
     ensures value { result ≡ reply table.old (put station sort) }
     ensures table_after { table.new ≡ after table.old (put station sort) }
 {
@@ -94,8 +82,7 @@ pub extern "C" fn ospreyscreen_put(table: &mut [u8], station: u64, sort: u64) ->
     put_on(table, station, sort)
 }
 
-#[unsafe(no_mangle)]
-pub extern "C" fn ospreyscreen_commit(table: &mut [u8]) -> Reply
+pub fn ospreyscreen_commit(table: &mut [u8]) -> Reply
     ensures value { result ≡ reply table.old commit }
     ensures table_after { table.new ≡ after table.old commit }
 {
@@ -105,8 +92,7 @@ pub extern "C" fn ospreyscreen_commit(table: &mut [u8]) -> Reply
     commit_on(table)
 }
 
-#[unsafe(no_mangle)]
-pub extern "C" fn ospreyscreen_abandon(table: &mut [u8]) -> Reply
+pub fn ospreyscreen_abandon(table: &mut [u8]) -> Reply
     ensures value { result ≡ reply table.old abandon }
     ensures table_after { table.new ≡ after table.old abandon }
 {
@@ -116,8 +102,7 @@ pub extern "C" fn ospreyscreen_abandon(table: &mut [u8]) -> Reply
     abandon_on(table)
 }
 
-#[unsafe(no_mangle)]
-pub extern "C" fn ospreyscreen_link(table: &mut [u8], station: u64, state: u64) -> Reply
+pub fn ospreyscreen_link(table: &mut [u8], station: u64, state: u64) -> Reply
     ensures value { result ≡ reply table.old (link station state) }
     ensures table_after { table.new ≡ after table.old (link station state) }
 {
@@ -127,8 +112,7 @@ pub extern "C" fn ospreyscreen_link(table: &mut [u8], station: u64, state: u64) 
     link_on(table, station, state)
 }
 
-#[unsafe(no_mangle)]
-pub extern "C" fn ospreyscreen_reach(table: &[u8], i: u64) -> Reply
+pub fn ospreyscreen_reach(table: &[u8], i: u64) -> Reply
     ensures { result ≡ reply table.now (reach i) }
 {
     if !is_sound(table) {
@@ -137,8 +121,7 @@ pub extern "C" fn ospreyscreen_reach(table: &[u8], i: u64) -> Reply
     reach_on(table, i)
 }
 
-#[unsafe(no_mangle)]
-pub extern "C" fn ospreyscreen_diagnose(table: &[u8]) -> Reply
+pub fn ospreyscreen_diagnose(table: &[u8]) -> Reply
     ensures { result ≡ reply table.now diagnose }
 {
     if !is_sound(table) {
@@ -147,8 +130,7 @@ pub extern "C" fn ospreyscreen_diagnose(table: &[u8]) -> Reply
     diagnose_on(table)
 }
 
-#[unsafe(no_mangle)]
-pub extern "C" fn ospreyscreen_plan(table: &[u8], item: u64) -> Reply
+pub fn ospreyscreen_plan(table: &[u8], item: u64) -> Reply
     ensures { result ≡ reply table.now (plan item) }
 {
     if !is_sound(table) {
@@ -157,16 +139,14 @@ pub extern "C" fn ospreyscreen_plan(table: &[u8], item: u64) -> Reply
     plan_on(table, item)
 }
 
-#[unsafe(no_mangle)]
-pub extern "C" fn ospreyscreen_votes(votes: &[u8], read: u64, write: u64, out: &mut [u8]) -> Reply
+pub fn ospreyscreen_votes(votes: &[u8], read: u64, write: u64, out: &mut [u8]) -> Reply
     ensures value { result ≡ votes_reply votes.now read write out.old }
     ensures out_after { out.new ≡ votes_output votes.now read write out.old }
 {
     plain(votes_to_configuration(votes, read, write, out))
 }
 
-#[unsafe(no_mangle)]
-pub extern "C" fn ospreyscreen_standard_form(n: u64, config: &[u8], out: &mut [u8]) -> Reply
+pub fn ospreyscreen_standard_form(n: u64, config: &[u8], out: &mut [u8]) -> Reply
     ensures value { result ≡ form_reply n config.now out.old }
     ensures out_after { out.new ≡ form_output n config.now out.old }
 {
