@@ -36,6 +36,8 @@
 //     fifteen ROUND AT VALUE     the same of n 15, m 1
 //
 // Any other word gets the number 99, in a set-up too.
+#![tactic(auto)]
+
 mod call;
 mod form;
 mod kept;

@@ -1,4 +1,6 @@
 // The frame runner: reads frames from standard input, one a line, and prints a reply line for each.
+#![tactic(auto)]
+
 ghost use Rattle.std.specs.Prelude.{◌≡◌, ◌≤◌, length, take};
 ghost use Rattle.runs.specs.Pieces.{printed_last};
 ghost use Rattle.reading.specs.Between.{RightSizes, Ready};

@@ -1,4 +1,6 @@
 // Standard input, read piece by piece and answered.
+#![tactic(auto)]
+
 ghost use Rattle.std.specs.Prelude.{◌≡◌, true, ◌<◌, OnOk, length, take};
 ghost use Rattle.std.specs.Io.KnownBytes.{Appends};
 ghost use Rattle.reading.specs.Between.{RightSizes, Ready, AnswersPiece, Stopped};

@@ -8,6 +8,8 @@
 // the thresholds, the length of the output, at most 40, and at most 20 votes. The output's bytes are AA before the call. A case prints its
 // name, the reply, a number and three figures, and the output's bytes in pairs: each pair is a place, the least significant byte first. A
 // case that cannot be run, with a word that is no number of 64 bits, a vote above 255 or too many or too few words, prints 99.
+#![tactic(auto)]
+
 mod case;
 mod script;
 mod show;
