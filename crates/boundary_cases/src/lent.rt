@@ -3,7 +3,7 @@ ghost use Rattle.std.specs.Prelude.{◌≡◌, length};
 
 // How many bytes of the space, and how many of a configuration. Its sets, four to a number, 16 bits each, the first least significant:
 // the read sets at places 0 to 3 and 4 to 7, then the write sets. And how many bytes are kept.
-#[derive(Drop)]
+#[derive(Clone, Copy)]
 pub struct Lent {
     pub len: usize,
     pub config_len: usize,

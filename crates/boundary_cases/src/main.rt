@@ -36,6 +36,8 @@
 //     fifteen ROUND AT VALUE     the same of n 15, m 1
 //
 // Any other word gets the number 99, in a set-up too.
+#![tactic(auto)]
+
 mod call;
 mod form;
 mod kept;
@@ -46,10 +48,30 @@ mod rows;
 mod script;
 mod show;
 
-fn main() {
-    let mut input = io::large_buffer();
-    let n = io::read_full(0, &mut input);
+ghost use Rattle.std.specs.Prelude.{◌≤◌, IfOk, length};
+
+use std::io;
+use std::io::Read;
+
+// Reads until the buffer is full or the input ends, and returns how many bytes it put at the start of the buffer.
+fn read_full<R: Read>(from: &mut R, buf: &mut [u8]) -> io::Result<usize>
+    ensures { IfOk result (λ n. n ≤ length buf.new) }
+{
+    let mut done = 0;
+    while done < buf.len() {
+        let n = from.read(&mut buf[done..])?;
+        if n == 0 {
+            break;
+        }
+        done += n;
+    }
+    Ok(done)
+}
+
+fn main(rt: HostRuntime) -> io::Result<()> {
+    let mut input = [0u8; 65536];
+    let n = read_full(&mut rt.stdin(), &mut input)?;
     let mut space = [7u8; 30520];
     let mut room = [0u8; 30520];
-    script::run(&input[..n], &mut space, &mut room);
+    script::run(&mut rt.stdout(), &input[..n], &mut space, &mut room)
 }

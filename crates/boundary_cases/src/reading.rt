@@ -29,7 +29,7 @@ const WORDS: [u64; 24] = [
 ];
 
 // A call as far as it is read: its word, its numbers, and which of them is read. The word has number 0.
-#[derive(Drop)]
+#[derive(Clone, Copy)]
 pub struct Call {
     pub word: u64,
     pub at: usize,

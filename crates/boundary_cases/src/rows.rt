@@ -4,6 +4,8 @@ use crate::call::{
 };
 use crate::lent::replace;
 use crate::show::reply;
+use std::io;
+use std::io::Write;
 
 // Set 0004 on both sides, the target of every change here.
 const TARGET: [u8; 32] = *b"\x04\0\0\0\0\0\0\0\0\0\0\0\0\0\0\0\x04\0\0\0\0\0\0\0\0\0\0\0\0\0\0\0";
@@ -18,19 +20,20 @@ const ELEVEN: [u64; 33] = [
 const STEPS: [u64; 12] = [POLL, 0, 0, POLL, 1, 0, PUT, 2, 1, PUT, 0, 2];
 
 // Calls of three numbers each, a word and two arguments, on the table.
-fn calls(table: &mut [u8], rows: &[u64], shown: bool) {
+fn calls<W: Write>(to: &mut W, table: &mut [u8], rows: &[u64], shown: bool) -> io::Result<()> {
     let mut at = 0;
     while rows.len() - at > 2 {
         let r = call(table, &TARGET, rows[at], rows[at + 1], rows[at + 2], 0);
         if shown {
-            reply(r);
+            reply(to, r)?;
         }
         at += 3;
     }
+    Ok(())
 }
 
-pub fn eleven(table: &mut [u8]) {
-    calls(table, &ELEVEN, true);
+pub fn eleven<W: Write>(to: &mut W, table: &mut [u8]) -> io::Result<()> {
+    calls(to, table, &ELEVEN, true)
 }
 
 // The call that opens a round of a kind, 1 read, 2 write or 3 change; for 0 one that is refused.
@@ -63,16 +66,31 @@ fn lay(table: &mut [u8], config: &[u8], three: bool) {
 
 // Such a table with a round of item 0 that has polled 0 and 1. A write and a change to 0004 have a data put at 2, and the change a
 // configuration put at 0; a round refuses the puts that it does not take.
-fn prepare(table: &mut [u8], config: &[u8], three: bool, kind: u64) {
+fn prepare<W: Write>(
+    to: &mut W,
+    table: &mut [u8],
+    config: &[u8],
+    three: bool,
+    kind: u64,
+) -> io::Result<()> {
     lay(table, config, three);
     call(table, &TARGET, opening(kind), 0, 510, 0);
-    calls(table, &STEPS, false);
+    calls(to, table, &STEPS, false)
 }
 
 // The eleven calls on such a table with one byte changed; then the byte is as it was.
-pub fn damaged(table: &mut [u8], config: &[u8], three: bool, kind: u64, at: u64, byte: u64) {
-    prepare(table, config, three, kind);
+pub fn damaged<W: Write>(
+    to: &mut W,
+    table: &mut [u8],
+    config: &[u8],
+    three: bool,
+    kind: u64,
+    at: u64,
+    byte: u64,
+) -> io::Result<()> {
+    prepare(to, table, config, three, kind)?;
     let was = replace(table, at, byte);
-    eleven(table);
+    eleven(to, table)?;
     replace(table, at, was as u64);
+    Ok(())
 }

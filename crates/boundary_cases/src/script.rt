@@ -2,10 +2,17 @@
 use crate::lent::Lent;
 use crate::perform::perform;
 use crate::reading::Call;
+use std::io;
+use std::io::Write;
 
 // Does what the script says, in the space, with room for the bytes that are kept. `calls` says that the byte stands behind the bar of its line, and
 // `shown` that there is text before it.
-pub fn run(script: &[u8], space: &mut [u8], room: &mut [u8]) {
+pub fn run<W: Write>(
+    to: &mut W,
+    script: &[u8],
+    space: &mut [u8],
+    room: &mut [u8],
+) -> io::Result<()> {
     let mut lent = Lent {
         len: 0,
         config_len: 0,
@@ -25,14 +32,15 @@ pub fn run(script: &[u8], space: &mut [u8], room: &mut [u8]) {
         let bar = b == b'|';
         let line_end = b == b'\n';
         let call_end = line_end | (b == b',');
-        lent = perform(space, room, lent, call, calls & call_end, shown);
+        lent = perform(to, space, room, lent, call, calls & call_end, shown)?;
         if (shown & line_end) | !(calls | bar | line_end) {
             let printed = [b];
-            io::write_all(1, &printed);
+            to.write_all(&printed)?;
         }
         call = call.after(calls & !call_end, b);
         shown = !line_end & (shown | !(calls | bar));
         calls = !line_end & (calls | bar);
         i += 1;
     }
+    Ok(())
 }

@@ -1,38 +1,34 @@
 // Printing.
 use rules::Reply;
+use std::io;
+use std::io::Write;
 
 // A number and three figures.
-pub fn reply(r: Reply) {
-    io::write_all(1, b"  ");
-    io::print_decimal(1, r.number);
-    io::write_all(1, b" ");
-    io::print_decimal(1, r.first);
-    io::write_all(1, b" ");
-    io::print_decimal(1, r.second);
-    io::write_all(1, b" ");
-    io::print_decimal(1, r.third);
+pub fn reply<W: Write>(to: &mut W, r: Reply) -> io::Result<()> {
+    write!(to, "  {} {} {} {}", r.number, r.first, r.second, r.third)
 }
 
 // A byte of an output, with a space before each pair.
-fn byte(i: usize, b: u8) {
+fn byte<W: Write>(to: &mut W, i: usize, b: u8) -> io::Result<()> {
     if i % 2 == 0 {
-        io::write_all(1, b" ");
+        to.write_all(b" ")?;
     }
-    io::print_hex(1, b as u64, 2);
+    write!(to, "{b:02x}")
 }
 
 // The bytes of an output.
-pub fn bytes(out: &[u8]) {
+pub fn bytes<W: Write>(to: &mut W, out: &[u8]) -> io::Result<()> {
     for i in 0..out.len() {
-        byte(i, out[i]);
+        byte(to, i, out[i])?;
     }
+    Ok(())
 }
 
 // Whether something holds, 1 or 0.
-pub fn truth(holds: bool) {
+pub fn truth<W: Write>(to: &mut W, holds: bool) -> io::Result<()> {
     if holds {
-        io::write_all(1, b"  1");
+        to.write_all(b"  1")
     } else {
-        io::write_all(1, b"  0");
+        to.write_all(b"  0")
     }
 }

@@ -1,13 +1,15 @@
 // The frame runner: reads frames from standard input, one a line, and prints a reply line for each.
+#![tactic(auto)]
+
 ghost use Rattle.std.specs.Prelude.{◌≡◌, ◌≤◌, length, take};
 ghost use Rattle.runs.specs.Pieces.{printed_last};
 ghost use Rattle.reading.specs.Between.{RightSizes, Ready};
 
 use feeding::{Fed, finish};
 use layout::LARGEST;
-use libc::STDOUT_FILENO;
 use lines::ENOUGH;
-use reading::{AfterRead, answer_reads};
+use reading::{AfterRead, answer_reads, send};
+use std::io::{Read, Write};
 
 // At the end of input a last line without a line end is answered. Returns the length of the output.
 fn answer_last(table: &mut [u8], line: &[u8], out: &mut [u8], s: AfterRead) -> usize
@@ -26,18 +28,29 @@ fn answer_last(table: &mut [u8], line: &[u8], out: &mut [u8], s: AfterRead) -> u
 }
 
 // Answers the whole input, and at its end a last line without a line end; a failed read or write leaves no such line.
-fn answer_input(input: &mut [u8], table: &mut [u8], line: &mut [u8], out: &mut [u8])
+fn answer_input<R: Read, W: Write>(
+    from: &mut R,
+    to: &mut W,
+    input: &mut [u8],
+    table: &mut [u8],
+    line: &mut [u8],
+    out: &mut [u8],
+)
     requires { RightSizes table.old line.old out.old }
 {
-    let s = answer_reads(input, table, line, out);
+    let s = answer_reads(from, to, input, table, line, out);
     let end = answer_last(table, line, out, s);
-    io::write_all(STDOUT_FILENO, &out[..end]);
+    let _ = send(to, &out[..end]);
 }
 
-fn main() {
-    let mut input = io::large_buffer();
+fn main(rt: HostRuntime) {
+    let mut from = rt.stdin();
+    let mut to = rt.stdout();
+    let mut input = [0u8; 65536];
     let mut table = [0u8; LARGEST];
     let mut line = [0u8; ENOUGH];
-    let mut out = io::large_buffer();
-    answer_input(&mut input, &mut table, &mut line, &mut out);
+    let mut out = [0u8; 65536];
+    answer_input(
+        &mut from, &mut to, &mut input, &mut table, &mut line, &mut out,
+    );
 }

@@ -1,16 +1,20 @@
 // Standard input, read piece by piece and answered.
-ghost use Rattle.std.specs.Prelude.{◌≡◌, true, ◌<◌, length, take};
+#![tactic(auto)]
+
+ghost use Rattle.std.specs.Prelude.{◌≡◌, true, ◌<◌, OnOk, length, take};
+ghost use Rattle.std.specs.Io.KnownBytes.{Appends};
 ghost use Rattle.reading.specs.Between.{RightSizes, Ready, AnswersPiece, Stopped};
 
 use feeding::{Fed, feed};
-use libc::{STDIN_FILENO, STDOUT_FILENO};
+use std::io;
+use std::io::{Read, Write};
 
 // More reads than any input has.
 const READS: u64 = 18446744073709551615;
 
 // Between two reads: the lengths in use of the table and of the line so far, how many bytes the last read gave, and whether all that was
 // read was answered.
-#[derive(Drop)]
+#[derive(Clone, Copy)]
 pub struct AfterRead {
     pub used: usize,
     pub len: usize,
@@ -18,9 +22,18 @@ pub struct AfterRead {
     pub whole: bool,
 }
 
+// Writes all of the text, and sees it through to where it goes.
+pub fn send<W: Write>(to: &mut W, text: &[u8]) -> io::Result<()>
+    ensures { OnOk result (Appends (W.contents to.old) (W.contents to.new) text.now) }
+{
+    to.write_all(text)?;
+    to.flush()
+}
+
 // Feeds a piece of input to the session, and writes its replies as often as they fill the output and at the end. Where they
 // cannot be written the piece is left, and the line so far with it.
-fn answer_piece(
+fn answer_piece<W: Write>(
+    to: &mut W,
     piece: &[u8],
     table: &mut [u8],
     line: &mut [u8],
@@ -46,7 +59,7 @@ fn answer_piece(
             used: r.used,
             out: 0,
         };
-        if !io::write_all(STDOUT_FILENO, &out[..end]) {
+        if send(to, &out[..end]).is_err() {
             return AfterRead {
                 used: fed.used,
                 len: 0,
@@ -64,7 +77,9 @@ fn answer_piece(
 }
 
 // Reads once, and answers what came: no byte at the end of input. A failed read leaves no line.
-fn answer_read(
+fn answer_read<R: Read, W: Write>(
+    from: &mut R,
+    to: &mut W,
     input: &mut [u8],
     table: &mut [u8],
     line: &mut [u8],
@@ -76,17 +91,15 @@ fn answer_read(
         table.new line.new result }
     ensures ready { Ready table.new line.new out.new result }
 {
-    let got = libc::read(STDIN_FILENO, input);
-    if got < 0 {
-        return AfterRead {
+    match from.read(input) {
+        Ok(n) => answer_piece(to, &input[..n], table, line, out, s),
+        Err(_) => AfterRead {
             used: s.used,
             len: 0,
             read: 0,
             whole: false,
-        };
+        },
     }
-    let n = io::count(got, input);
-    answer_piece(&input[..n], table, line, out, s)
 }
 
 // How many reads may follow, of so many: none where the last gave no byte, and none after a failure.
@@ -104,7 +117,9 @@ fn reads_left(reads: u64, s: AfterRead) -> u64
 }
 
 // Reads and answers, from the start, until a read gives no byte or something fails.
-pub fn answer_reads(
+pub fn answer_reads<R: Read, W: Write>(
+    from: &mut R,
+    to: &mut W,
     input: &mut [u8],
     table: &mut [u8],
     line: &mut [u8],
@@ -122,7 +137,7 @@ pub fn answer_reads(
     };
     let mut reads = READS;
     while reads > 0 {
-        s = answer_read(input, table, line, out, s);
+        s = answer_read(from, to, input, table, line, out, s);
         reads = reads_left(reads, s);
     }
     s

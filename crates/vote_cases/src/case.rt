@@ -5,7 +5,7 @@ const LARGEST: u64 = 18446744073709551615;
 
 // Whether the bar of the line is read, and whether every word fits so far; the number that is read, if there is one; how many words are
 // before it, and the first three of them.
-#[derive(Drop)]
+#[derive(Clone, Copy)]
 pub struct Case {
     pub begun: bool,
     pub fits: bool,

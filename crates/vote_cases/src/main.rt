@@ -8,13 +8,35 @@
 // the thresholds, the length of the output, at most 40, and at most 20 votes. The output's bytes are AA before the call. A case prints its
 // name, the reply, a number and three figures, and the output's bytes in pairs: each pair is a place, the least significant byte first. A
 // case that cannot be run, with a word that is no number of 64 bits, a vote above 255 or too many or too few words, prints 99.
+#![tactic(auto)]
+
 mod case;
 mod script;
 mod show;
 
-fn main() {
-    let mut input = io::large_buffer();
-    let n = io::read_full(0, &mut input);
+ghost use Rattle.std.specs.Prelude.{◌≤◌, IfOk, length};
+
+use std::io;
+use std::io::Read;
+
+// Reads until the buffer is full or the input ends, and returns how many bytes it put at the start of the buffer.
+fn read_full<R: Read>(from: &mut R, buf: &mut [u8]) -> io::Result<usize>
+    ensures { IfOk result (λ n. n ≤ length buf.new) }
+{
+    let mut done = 0;
+    while done < buf.len() {
+        let n = from.read(&mut buf[done..])?;
+        if n == 0 {
+            break;
+        }
+        done += n;
+    }
+    Ok(done)
+}
+
+fn main(rt: HostRuntime) -> io::Result<()> {
+    let mut input = [0u8; 65536];
+    let n = read_full(&mut rt.stdin(), &mut input)?;
     let mut votes = [0u8; 20];
-    script::run(&input[..n], &mut votes);
+    script::run(&mut rt.stdout(), &input[..n], &mut votes)
 }

@@ -1,35 +1,32 @@
 // Printing.
 use rules::Reply;
+use std::io;
+use std::io::Write;
 
 // The number of a case that cannot be run.
 const UNFIT: u64 = 99;
 
-pub fn unfit() {
-    io::print_decimal(1, UNFIT);
+pub fn unfit<W: Write>(to: &mut W) -> io::Result<()> {
+    write!(to, "{UNFIT}")
 }
 
 // A number and three figures.
-pub fn reply(r: Reply) {
-    io::print_decimal(1, r.number);
-    io::write_all(1, b" ");
-    io::print_decimal(1, r.first);
-    io::write_all(1, b" ");
-    io::print_decimal(1, r.second);
-    io::write_all(1, b" ");
-    io::print_decimal(1, r.third);
+pub fn reply<W: Write>(to: &mut W, r: Reply) -> io::Result<()> {
+    write!(to, "{} {} {} {}", r.number, r.first, r.second, r.third)
 }
 
 // A byte of an output, with a space before each pair.
-fn byte(i: usize, b: u8) {
+fn byte<W: Write>(to: &mut W, i: usize, b: u8) -> io::Result<()> {
     if i % 2 == 0 {
-        io::write_all(1, b" ");
+        to.write_all(b" ")?;
     }
-    io::print_hex(1, b as u64, 2);
+    write!(to, "{b:02x}")
 }
 
 // The bytes of an output.
-pub fn bytes(out: &[u8]) {
+pub fn bytes<W: Write>(to: &mut W, out: &[u8]) -> io::Result<()> {
     for i in 0..out.len() {
-        byte(i, out[i]);
+        byte(to, i, out[i])?;
     }
+    Ok(())
 }

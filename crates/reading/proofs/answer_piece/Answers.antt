@@ -1,0 +1,22 @@
+use Rattle.std.proofs.Common.{◌≤◌, length, refl, arith}
+use Rattle.replies.specs.ReplyLine.{reply_line_size}
+use Rattle.reading.specs.Between.{begin}
+use Rattle.reading.proofs.Progress.{forward, up_to_none, up_to_more, fits_at}
+use Rattle.reading.proofs.answer_piece.Goals as goal
+
+pub loop-fed-init : goal.loop-fed-init
+loop-fed-init g c =
+    let a = c.args in
+    record { fits = c.requires.0; empty = refl; so_far = up_to_none a.piece.now a.table.now a.line.now (begin a.s) refl }
+
+pub loop-fed-smaller : goal.loop-fed-smaller
+loop-fed-smaller g c =
+    let l = c.loop-fed in
+    let room : reply_line_size ≤ length l.out = omega (arith, c.requires.1, l.auto.out) in
+    let more = forward _ _ _ _ _ _ _ _ _ c.feed-r.ensures.takes l.invariant.empty room c.loop-fed-test.true c.feed-r.ensures.fact in
+    omega arith
+
+pub loop-fed-preserved : goal.loop-fed-preserved
+loop-fed-preserved g c =
+    let takes = c.feed-r.ensures.takes in
+    record { fits = fits_at _ takes.fits; empty = refl; so_far = up_to_more _ _ _ _ _ _ _ _ _ takes _ c.loop-fed.invariant.so_far }

@@ -1,0 +1,15 @@
+use Rattle.std.proofs.Common.{◌≡◌, length, ◌-◌}
+use Rattle.feeding.specs.Buffers.{in_hand, Fits}
+use Rattle.reading.proofs.Progress.{UpTo}
+use Rattle.reading.proofs.answer_piece.Given as goal
+
+abbrev pub invariant-loop-fed : goal.invariant-loop-fed
+invariant-loop-fed g l =
+    record {
+      fits : Fits l.table l.line l.out l.fed;
+      empty : l.fed.out ≡ 0;
+      so_far : UpTo (in_hand l.initial.table l.initial.fed.used l.initial.line l.initial.fed.len) l.piece l.table l.line l.fed;
+    }
+
+abbrev pub decreases-loop-fed : goal.decreases-loop-fed
+decreases-loop-fed g l = length l.piece - l.fed.at
