@@ -1,4 +1,5 @@
 use mathlib.Core.Path.{◌≡◌, sym, ◌∙◌}
+use mathlib.Core.List.{List}
 use Prim.Native.Nat.{ℕ}
 use lib.ListN.{drop}
 use Rattle.layout.specs.View.{view}
@@ -7,21 +8,21 @@ use Rattle.rules.specs.Calls.{poll}
 use Rattle.rules.specs.Rules.{first, tests}
 use Rattle.numbers.proofs.Refusals.{is_below, is_idle_lem, is_open, member_test, not-below}
 use Rattle.numbers.proofs.poll_number.Goals as goal
-use Rattle.numbers.proofs.poll_number.Goals.{Else-is_member, Else-kind-eq-NO_ROUND, Start}
+use Rattle.numbers.proofs.poll_number.Goals.{Else-is_member, Else-kind-eq-NO_ROUND}
 
 -- the number by the tests past the first k
-abbrev past : ℕ → Start → ℕ
-past k c = first (drop k (tests (view c.args.t.now) (poll c.args.s)))
+abbrev past : ℕ → List ℕ → ℕ → ℕ
+past k t s = first (drop k (tests (view t) (poll s)))
 
-past-kind : (c : Else-kind-eq-NO_ROUND) → past 0 c ≡ past 2 c
+past_kind : (c : Else-kind-eq-NO_ROUND) → past 0 c.args.t.now c.args.s ≡ past 2 c.args.t.now c.args.s
 unfolding tests first view
-past-kind c =
+past_kind c =
     rw (is_below c.stations.ensures c.if-stations-s.false, is_open c.kind.ensures c.if-kind-eq-NO_ROUND.false)
 
-past_off : (c : Else-is_member) → past 0 c ≡ past 3 c
+past_off : (c : Else-is_member) → past 2 c.args.t.now c.args.s ≡ past 3 c.args.t.now c.args.s
 unfolding tests first view
 past_off c =
-    past-kind c ∙ rw (member_test _ c.off_set.ensures c.is_member.ensures c.if-is_member.false)
+    rw (member_test _ c.off_set.ensures c.is_member.ensures c.if-is_member.false)
 
 pub stations-requires : goal.stations-requires
 stations-requires c = sound_head _ c.requires
@@ -44,15 +45,19 @@ off_set-requires c = sound_head _ c.requires
 pub returns-then-is_member : goal.returns-then-is_member
 unfolding tests first view
 returns-then-is_member c =
-    sym (past-kind (goal.at.returns-then-is_member c).Else-kind-eq-NO_ROUND ∙ rw (member_test _ c.off_set.ensures c.is_member.ensures c.if-is_member.true))
+    sym (past_kind (goal.at.returns-then-is_member c).Else-kind-eq-NO_ROUND ∙ rw (member_test _ c.off_set.ensures c.is_member.ensures c.if-is_member.true))
 
 pub has_puts-requires : goal.has_puts-requires
 has_puts-requires c = sound_head _ c.requires
 
 pub returns-then-has_puts : goal.returns-then-has_puts
 unfolding tests first
-returns-then-has_puts c = sym (past_off (goal.at.returns-then-has_puts c).Else-is_member ∙ rw (sym c.has_puts.ensures ∙ c.if-has_puts.true))
+returns-then-has_puts c = 
+    let at = goal.at.returns-then-has_puts c in
+    sym (past_kind at.Else-kind-eq-NO_ROUND ∙ past_off at.Else-is_member ∙ rw (sym c.has_puts.ensures ∙ c.if-has_puts.true))
 
 pub returns : goal.returns
 unfolding tests first
-returns c = sym (past_off (goal.at.returns c).Else-is_member ∙ rw (sym c.has_puts.ensures ∙ c.if-has_puts.false))
+returns c = 
+    let at = goal.at.returns c in
+    sym (past_kind at.Else-kind-eq-NO_ROUND ∙ past_off at.Else-is_member ∙ rw (sym c.has_puts.ensures ∙ c.if-has_puts.false))

@@ -1,4 +1,5 @@
 use mathlib.Core.Path.{◌≡◌, sym}
+use mathlib.Core.List.{List}
 use mathlib.Core.Bool.{Bool, true, false, cond}
 use Prim.Native.Nat.{ℕ}
 use lib.ListN.{drop}
@@ -12,38 +13,38 @@ use Rattle.rules.specs.Rules.{first, no_sort, tests}
 use Rattle.layout.proofs.OneWalk.{version_carried, generation_carried}
 use Rattle.numbers.proofs.Refusals.{is_kind, is_change, last_test}
 use Rattle.numbers.proofs.put_kind_number.Goals as goal
-use Rattle.numbers.proofs.put_kind_number.Goals.{After-is_last, After-is_last-then-sort-eq-CONFIGURATION-2, Else-k-eq-WRITE, Start}
+use Rattle.numbers.proofs.put_kind_number.Goals.{After-is_last, After-is_last-then-sort-eq-CONFIGURATION-2, Else-k-eq-WRITE}
 
 -- the number by the last two tests
-abbrev last-tests : Start → ℕ
-last-tests c = first (drop 4 (tests (view c.args.t.now) (put 0 c.args.sort)))
+abbrev last_tests : List ℕ → ℕ → ℕ
+last_tests t sort = first (drop 4 (tests (view t) (put 0 sort)))
 
 -- a listed sort that is not the configuration's is data's
-data-sort : (sort : ℕ) → no_sort sort ≡ false → is_config_sort sort ≡ false → is_data sort ≡ true
-data-sort sort e f = or_cases (is_data sort) (is_config_sort sort) (not-false _ e) (λ d. d) (λ c. clash c f)
+data_sort : (sort : ℕ) → no_sort sort ≡ false → is_config_sort sort ≡ false → is_data sort ≡ true
+data_sort sort e f = or_cases (is_data sort) (is_config_sort sort) (not-false _ e) (λ d. d) (λ c. clash c f)
 
 -- in a write, a data put: by the test of the version found
-data-put : (c : After-is_last) {r : Bool} → c.is_last.result ≡ r → last-tests c ≡ cond r 10 0
+data_put : (c : After-is_last) {r : Bool} → c.is_last.result ≡ r → last_tests c.args.t.now c.args.sort ≡ cond r 10 0
 unfolding tests first view
-data-put c e =
+data_put c e =
     let no_config = ne_eqb _ _ c.if-sort-eq-CONFIGURATION.false in
-    let is-data = data-sort c.args.sort c.requires.2 no_config in
+    let is_data_put = data_sort c.args.sort c.requires.2 no_config in
     let spent = last_test c.is_last.ensures (version_carried _ _ _ c.requires.3) e in
-    rw (is_kind 2 c.kind.ensures c.if-k-eq-WRITE.true, no_config, is-data, spent)
+    rw (is_kind 2 c.kind-k.ensures c.if-k-eq-WRITE.true, no_config, is_data_put, spent)
 
 -- what is neither a read nor a write is a change
 changes : (c : Else-k-eq-WRITE) → (view c.args.t.now).round.kind ≡ change
 unfolding view
 changes c =
-    is_change c.kind.ensures c.requires.1 c.if-k-eq-READ.false c.if-k-eq-WRITE.false
+    is_change c.kind-k.ensures c.requires.1 c.if-k-eq-READ.false c.if-k-eq-WRITE.false
 
 -- in a change, a configuration put: by the test of the generation found
-config-put : (c : After-is_last-then-sort-eq-CONFIGURATION-2) {r : Bool} → c.is_last-then-sort-eq-CONFIGURATION-2.result ≡ r
-    → last-tests c ≡ cond r 10 0
+config_put : (c : After-is_last-then-sort-eq-CONFIGURATION-2) {r : Bool} → (view c.args.t.now).round.kind ≡ change
+    → c.is_last-then-sort-eq-CONFIGURATION-2.result ≡ r → last_tests c.args.t.now c.args.sort ≡ cond r 10 0
 unfolding tests first view
-config-put c e =
+config_put c is_a_change e =
     let spent = last_test c.is_last-then-sort-eq-CONFIGURATION-2.ensures (generation_carried _ _ _ c.requires.3) e in
-    rw (changes c, eq-eqb _ _ c.if-sort-eq-CONFIGURATION-2.true, spent)
+    rw (is_a_change, eq-eqb _ _ c.if-sort-eq-CONFIGURATION-2.true, spent)
 
 pub kind-k-requires : goal.kind-k-requires
 kind-k-requires c = sound_head _ c.requires.0
@@ -55,19 +56,23 @@ returns-then-k-eq-READ c = rw (is_kind 1 c.kind-k.ensures c.if-k-eq-READ.true)
 pub returns-then-sort-eq-CONFIGURATION : goal.returns-then-sort-eq-CONFIGURATION
 unfolding tests first view
 returns-then-sort-eq-CONFIGURATION c =
-    rw (is_kind 2 c.kind.ensures c.if-k-eq-WRITE.true, eq-eqb _ _ c.if-sort-eq-CONFIGURATION.true)
+    rw (is_kind 2 c.kind-k.ensures c.if-k-eq-WRITE.true, eq-eqb _ _ c.if-sort-eq-CONFIGURATION.true)
 
 pub returns-then-is_last : goal.returns-then-is_last
-returns-then-is_last c = sym (data-put (goal.at.returns-then-is_last c).After-is_last c.if-is_last.true)
+returns-then-is_last c = sym (data_put (goal.at.returns-then-is_last c).After-is_last c.if-is_last.true)
 
 pub returns-then-k-eq-WRITE : goal.returns-then-k-eq-WRITE
-returns-then-k-eq-WRITE c = sym (data-put (goal.at.returns-then-k-eq-WRITE c).After-is_last c.if-is_last.false)
+returns-then-k-eq-WRITE c = sym (data_put (goal.at.returns-then-k-eq-WRITE c).After-is_last c.if-is_last.false)
 
 pub returns-then-is_last-2 : goal.returns-then-is_last-2
-returns-then-is_last-2 c = sym (config-put (goal.at.returns-then-is_last-2 c).After-is_last-then-sort-eq-CONFIGURATION-2 c.if-is_last-2.true)
+returns-then-is_last-2 c =
+    let at = goal.at.returns-then-is_last-2 c in
+    sym (config_put at.After-is_last-then-sort-eq-CONFIGURATION-2 (changes at.Else-k-eq-WRITE) c.if-is_last-2.true)
 
 pub returns-else-is_last-2 : goal.returns-else-is_last-2
-returns-else-is_last-2 c = sym (config-put (goal.at.returns-else-is_last-2 c).After-is_last-then-sort-eq-CONFIGURATION-2 c.if-is_last-2.false)
+returns-else-is_last-2 c =
+    let at = goal.at.returns-else-is_last-2 c in
+    sym (config_put at.After-is_last-then-sort-eq-CONFIGURATION-2 (changes at.Else-k-eq-WRITE) c.if-is_last-2.false)
 
 pub returns-else-sort-eq-CONFIGURATION-2 : goal.returns-else-sort-eq-CONFIGURATION-2
 unfolding tests first view

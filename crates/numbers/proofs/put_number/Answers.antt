@@ -1,4 +1,5 @@
 use mathlib.Core.Path.{◌≡◌, sym, ◌∙◌}
+use mathlib.Core.List.{List}
 use Prim.Native.Nat.{ℕ}
 use lib.ListN.{drop}
 use borrow.Author.Tests.{not-true, not-false}
@@ -11,28 +12,24 @@ use Rattle.layout.proofs.OneWalk.{nobody_hears}
 use Rattle.newest.proofs.Walks.{has_found, nobody_found}
 use Rattle.numbers.proofs.Refusals.{is_below, is_idle_lem, is_open, member_test, not-below, turned}
 use Rattle.numbers.proofs.put_number.Goals as goal
-use Rattle.numbers.proofs.put_number.Goals.{Else-is_member, Else-kind-eq-NO_ROUND, Else-not-is_either, Start}
+use Rattle.numbers.proofs.put_number.Goals.{Else-is_member, Else-kind-eq-NO_ROUND, Else-not-is_either}
 
 -- the number by the tests past the first k
-abbrev past : ℕ → Start → ℕ
-past k c = first (drop k (tests (view c.args.t.now) (put c.args.s c.args.sort)))
+abbrev past : ℕ → List ℕ → ℕ → ℕ → ℕ
+past k t s sort = first (drop k (tests (view t) (put s sort)))
 
-past-sort : (c : Else-not-is_either) → past 0 c ≡ past 1 c
+past_sort : (c : Else-not-is_either) → let a = c.args in past 0 a.t.now a.s a.sort ≡ past 1 a.t.now a.s a.sort
 unfolding tests first view
-past-sort c =
+past_sort c =
     rw (is_below c.stations.ensures c.if-stations-s.false, turned c.is_either.ensures c.if-not-is_either.false-raw)
 
-past-kind : (c : Else-kind-eq-NO_ROUND) → past 1 c ≡ past 2 c
+past_kind : (c : Else-kind-eq-NO_ROUND) → let a = c.args in past 1 a.t.now a.s a.sort ≡ past 2 a.t.now a.s a.sort
 unfolding tests first view
-past-kind c = rw (is_open c.kind.ensures c.if-kind-eq-NO_ROUND.false)
+past_kind c = rw (is_open c.kind.ensures c.if-kind-eq-NO_ROUND.false)
 
-past_off : (c : Else-is_member) → past 2 c ≡ past 3 c
+past_off : (c : Else-is_member) → let a = c.args in past 2 a.t.now a.s a.sort ≡ past 3 a.t.now a.s a.sort
 unfolding tests first view
 past_off c = rw (member_test _ c.off_set.ensures c.is_member.ensures c.if-is_member.false)
-
--- in all
-past_three : (c : Else-is_member) → past 0 c ≡ past 3 c
-past_three c = past-sort c ∙ past-kind c ∙ past_off c
 
 pub stations-requires : goal.stations-requires
 stations-requires c = sound_head _ c.requires
@@ -51,7 +48,7 @@ kind-requires c = sound_head _ c.requires
 
 pub returns-then-kind-eq-NO_ROUND : goal.returns-then-kind-eq-NO_ROUND
 unfolding tests first view
-returns-then-kind-eq-NO_ROUND c = sym (past-sort (goal.at.returns-then-kind-eq-NO_ROUND c).Else-not-is_either ∙ rw (is_idle_lem c.kind.ensures c.if-kind-eq-NO_ROUND.true))
+returns-then-kind-eq-NO_ROUND c = sym (past_sort (goal.at.returns-then-kind-eq-NO_ROUND c).Else-not-is_either ∙ rw (is_idle_lem c.kind.ensures c.if-kind-eq-NO_ROUND.true))
 
 pub off_set-requires : goal.off_set-requires
 off_set-requires c = sound_head _ c.requires
@@ -60,7 +57,7 @@ pub returns-then-is_member : goal.returns-then-is_member
 unfolding tests first view
 returns-then-is_member c =
     let tested = member_test _ c.off_set.ensures c.is_member.ensures c.if-is_member.true in
-    sym (past-sort (goal.at.returns-then-is_member c).Else-not-is_either ∙ past-kind (goal.at.returns-then-is_member c).Else-kind-eq-NO_ROUND ∙ rw tested)
+    sym (past_sort (goal.at.returns-then-is_member c).Else-not-is_either ∙ past_kind (goal.at.returns-then-is_member c).Else-kind-eq-NO_ROUND ∙ rw tested)
 
 pub round_found-found-requires : goal.round_found-found-requires
 round_found-found-requires c = c.requires
@@ -68,15 +65,17 @@ round_found-found-requires c = c.requires
 pub returns-in_default : goal.returns-in_default
 unfolding tests first
 returns-in_default c =
-    sym (past_three (goal.at.returns-in_default c).Else-is_member ∙ rw (nobody_hears _ _ _ (nobody_found c.round_found-found.ensures c.in_default.is)))
+    let at = goal.at.returns-in_default c in
+    sym (past_sort at.Else-not-is_either ∙ past_kind at.Else-kind-eq-NO_ROUND ∙ past_off at.Else-is_member ∙ rw (nobody_hears _ _ _ (nobody_found c.round_found-found.ensures c.in_default.is)))
 
 pub round_is_heard-requires : goal.round_is_heard-requires
-round_is_heard-requires c = ((at_off c).requires, has_found c.round_found-found.ensures c.in-Copies.is)
+round_is_heard-requires c = (c.requires, has_found c.round_found-found.ensures c.in-Copies.is)
 
 pub returns-then-not-round_is_heard : goal.returns-then-not-round_is_heard
 unfolding tests first
 returns-then-not-round_is_heard c =
-    sym (past_three (goal.at.returns-then-not-round_is_heard c).Else-is_member ∙ rw (sym c.round_is_heard.ensures ∙ not-true _ c.if-not-round_is_heard.true-raw))
+    let at = goal.at.returns-then-not-round_is_heard c in
+    sym (past_sort at.Else-not-is_either ∙ past_kind at.Else-kind-eq-NO_ROUND ∙ past_off at.Else-is_member ∙ rw (sym c.round_is_heard.ensures ∙ not-true _ c.if-not-round_is_heard.true-raw))
 
 pub put_kind_number-requires : goal.put_kind_number-requires
 unfolding view
@@ -92,4 +91,5 @@ pub returns : goal.returns
 unfolding tests first
 returns c =
     let heard = sym c.round_is_heard.ensures ∙ not-false _ c.if-not-round_is_heard.false-raw in
-    c.put_kind_number.ensures ∙ sym (past_three (goal.at.returns c).Else-is_member ∙ rw heard)
+    let at = goal.at.returns c in
+    c.put_kind_number.ensures ∙ sym (past_sort at.Else-not-is_either ∙ past_kind at.Else-kind-eq-NO_ROUND ∙ past_off at.Else-is_member ∙ rw heard)
