@@ -2,6 +2,7 @@ use mathlib.Core.Path.{◌≡◌, refl, ◌∙◌}
 use Rattle.layout.specs.View.{view}
 use Rattle.rules.specs.Calls.{diagnose}
 use Rattle.rules.specs.Rules.{first, tests}
+use Rattle.rules.specs.Needs.{needs}
 use Rattle.openings.proofs.Replies.{diagnose_asks, refused, shown}
 use Rattle.calls.proofs.diagnose_on.Goals as goal
 use Rattle.calls.proofs.diagnose_on.Goals.{After-idle_number-number}
@@ -15,7 +16,7 @@ returns-then-number-ne-DONE c =
     (refused _ c.requires diagnose refl (own-number (goal.at.returns-then-number-ne-DONE c).After-idle_number-number) c.if-number-ne-DONE.true c.plain.ensures).0
 
 pub diagnose_reply-requires : goal.diagnose_reply-requires
-unfolding calls-needs
+unfolding needs
 diagnose_reply-requires c =
     let s = c.requires in (s, (shown _ s diagnose refl (own-number (goal.at.diagnose_reply-requires c).After-idle_number-number) c.if-number-ne-DONE.false).1.0)
 

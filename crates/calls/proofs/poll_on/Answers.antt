@@ -2,7 +2,7 @@ use mathlib.Core.Path.{◌≡◌, refl, ap, ◌∙◌}
 use Rattle.layout.specs.Fields.{round_of}
 use Rattle.layout.specs.Rounds.{with_poll}
 use Rattle.layout.specs.Updates.{set_polled}
-use Rattle.layout.specs.View.{Table, view}
+use Rattle.layout.specs.View.{view}
 use Rattle.layout.proofs.Soundness.{sound_head}
 use Rattle.layout.proofs.Newer.{place_fits}
 use Rattle.rounds.specs.Round.{as_round}
@@ -14,16 +14,14 @@ use Rattle.calls.proofs.Figures.{poll_figure}
 use Rattle.calls.proofs.poll_on.Goals as goal
 use Rattle.calls.proofs.poll_on.Goals.{After-poll-round}
 
-abbrev table : After-poll-round → Table
-table c = c.args.t.now
-
-round : (c : After-poll-round) → as_round c.poll-round.result ≡ with_poll (round_of (table c)) c.args.station
+round : (c : After-poll-round) → as_round c.poll-round.result ≡ with_poll (round_of c.args.t.now) c.args.station
 round c = c.poll-round.ensures ∙ ap (λ r. with_poll (as_round r) c.args.station) c.«of».ensures
 
 pub returns-then-number-ne-DONE : goal.returns-then-number-ne-DONE
 returns-then-number-ne-DONE c =
     let s = c.requires in
-    refused _ s (poll _) refl c.poll_number-number.ensures c.if-number-ne-DONE.true c.plain.ensures
+    let both = refused _ s (poll _) refl c.poll_number-number.ensures c.if-number-ne-DONE.true c.plain.ensures in
+    record { value = both.0; t_after = both.1 }
 
 pub of-requires : goal.of-requires
 of-requires c = sound_head _ c.requires
@@ -48,5 +46,6 @@ returns c =
     let item = ap (λ r. r.item) (round (goal.at.returns c).After-poll-round) in
     let set = ap (λ r. r.polled) (round (goal.at.returns c).After-poll-round) in
     let figure = poll_figure _ _ c.stations.ensures item set c.heard_place-place.ensures c.place_figure.ensures in
-    finished _ c.requires (poll _) refl c.poll_number-number.ensures c.if-number-ne-DONE.false figure
-    (c.set_polled.ensures ∙ ap (set_polled _) set)
+    let both = finished _ c.requires (poll _) refl c.poll_number-number.ensures c.if-number-ne-DONE.false figure
+    (c.set_polled.ensures ∙ ap (set_polled _) set) in
+    record { value = both.0; t_after = both.1 }

@@ -46,7 +46,7 @@ returns-then-not-is_heard c =
 pub config_found-requires : goal.config_found-requires
 config_found-requires c = (in_table (goal.at.config_found-requires c).After-on_bus-on, generation_below _ _ _ (found (goal.at.config_found-requires c).In-Copies))
 
-figure : (c : After-holds_write_set) {r : Bool} → c.holds_write_set.result ≡ r → let start = at-start (at-bus c) in
+figure : (c : After-holds_write_set) {r : Bool} → c.holds_write_set.result ≡ r → let start = c in
     cond r 3 1 ≡ reach_figure (view start.args.t.now) start.args.i
 figure c e =
     reached _ _ c.stations-n.ensures c.on_bus-on.ensures (sym c.is_heard.ensures ∙ not-false _ c.if-not-is_heard.false-raw)

@@ -21,7 +21,7 @@ returns-then-k-eq-READ c = done-number _ (reads (goal.at.returns-then-k-eq-READ 
 pub write_number-requires : goal.write_number-requires
 unfolding view
 write_number-requires c =
-    let pre = c.requires in (pre.0, pre.1, is_kind 2 c.kind.ensures c.if-k-eq-WRITE.true)
+    let pre = c.requires in (pre.0, pre.1, is_kind 2 c.kind-k.ensures c.if-k-eq-WRITE.true)
 
 pub returns-then-k-eq-WRITE : goal.returns-then-k-eq-WRITE
 returns-then-k-eq-WRITE c = c.write_number.ensures
@@ -29,7 +29,7 @@ returns-then-k-eq-WRITE c = c.write_number.ensures
 pub change_number-requires : goal.change_number-requires
 unfolding view
 change_number-requires c =
-    let pre = c.requires in (pre.0, pre.2, is_change c.kind.ensures pre.0.is_open.1 c.if-k-eq-READ.false c.if-k-eq-WRITE.false)
+    let pre = c.requires in (pre.0, pre.2, is_change c.kind-k.ensures pre.0.is_open.1 c.if-k-eq-READ.false c.if-k-eq-WRITE.false)
 
 pub returns : goal.returns
 returns c = c.change_number.ensures

@@ -3,7 +3,7 @@ use native.Mathlib.Omega.{arith}
 use borrow.Author.Tests.{not-true, not-false}
 use Rattle.quorum.specs.Configurations.{place_figure}
 use Rattle.quorum.proofs.Promise.{promise}
-use Rattle.layout.specs.View.{Table, view, heard}
+use Rattle.layout.specs.View.{view, heard}
 use Rattle.layout.proofs.Newer.{place_fits}
 use Rattle.layout.proofs.OneWalk.{version_carried, generation_carried, station_figure_lem, nobody_hears, nobody_place, nobody_figure}
 use Rattle.layout.proofs.Soundness.{is_sound_lem}
@@ -16,15 +16,12 @@ use Rattle.closing.proofs.RoundFound.{version_there, generation_there, heard_at,
 use Rattle.closing.proofs.diagnose_reply.Goals as goal
 use Rattle.closing.proofs.diagnose_reply.Goals.{After-is_place, After-round_copy-g, In-Copies}
 
-abbrev table : In-Copies → Table
-table c = (called c).args.t.now
-
-found : (c : In-Copies) → OwnFound (table c) c.in-Copies.newest
+found : (c : In-Copies) → OwnFound c.args.t.now c.in-Copies.newest
 found c = has_found c.round_found-found.ensures c.in-Copies.is
 
 -- whether the round is heard
-heard-test : (c : After-is_place) → c.is_place.result ≡ heard (view (table c))
-heard-test c = c.is_place.ensures ∙ place_heard _ c.round_place-place.ensures
+heard_test : (c : After-is_place) → c.is_place.result ≡ heard (view c.args.t.now)
+heard_test c = c.is_place.ensures ∙ place_heard _ c.round_place-place.ensures
 
 pub round_found-found-requires : goal.round_found-found-requires
 round_found-found-requires c = c.requires.0
@@ -39,37 +36,41 @@ returns-in_default c =
 
 pub overflow_add-station : goal.overflow_add-station
 unfolding view
-overflow_add-station c = omega (arith, version_there _ (found (goal.at.overflow_add-station c).In-Copies), (is_sound_lem _ (called c).requires.0).small)
+overflow_add-station c = omega (arith, version_there _ (found (goal.at.overflow_add-station c).In-Copies), (is_sound_lem _ c.requires.0).small)
 
 pub round_place-place-requires : goal.round_place-place-requires
-round_place-place-requires c = ((called c).requires.0, found (goal.at.round_place-place-requires c).In-Copies)
+round_place-place-requires c = (c.requires.0, found (goal.at.round_place-place-requires c).In-Copies)
 
 pub returns-then-not-is_place : goal.returns-then-not-is_place
 returns-then-not-is_place c =
-    let pre = (called c).requires in
+    let at = goal.at.returns-then-not-is_place c in
+    let pre = c.requires in
     let nowhere = not-true _ c.if-not-is_place.true-raw in
-    let unheard = unheard-reply _ pre.0 ((a_round _).1 pre.1) (sym (heard-test (goal.at.returns-then-not-is_place c).After-is_place) ∙ nowhere) in
+    let unheard = unheard-reply _ pre.0 ((a_round _).1 pre.1) (sym (heard_test at.After-is_place) ∙ nowhere) in
     let no_place = (promise.figure_none _).1 (sym c.is_place.ensures ∙ nowhere) in
     c.diagnosis-then-not-is_place.ensures
-    ∙ diagnosed _ pre unheard refl (station_figure_lem _ _ _ (found (goal.at.returns-then-not-is_place c).In-Copies)) (sym (ap place_figure (sym c.round_place-place.ensures) ∙ no_place))
+    ∙ diagnosed _ pre unheard refl (station_figure_lem _ _ _ (found at.In-Copies)) (sym (ap place_figure (sym c.round_place-place.ensures) ∙ no_place))
 
 pub round_copy-g-requires : goal.round_copy-g-requires
-round_copy-g-requires c = ((called c).requires.0, generation_there _ (found (goal.at.round_copy-g-requires c).In-Copies))
+round_copy-g-requires c = (c.requires.0, generation_there _ (found (goal.at.round_copy-g-requires c).In-Copies))
 
 -- the copy that gives the configuration
-config_copy : (c : After-round_copy-g) → HeardAt (table c) c.round_copy-g.result
-config_copy c =
-    heard_at _ (found c) (called c).requires c.round_copy-g.ensures (sym (heard-test c) ∙ not-false _ c.if-not-is_place.false-raw)
+config_copy : (c : After-round_copy-g) → OwnFound c.args.t.now c.in-Copies.newest → c.is_place.result ≡ heard (view c.args.t.now)
+    → HeardAt c.args.t.now c.round_copy-g.result
+config_copy c own tested =
+    heard_at _ own c.requires c.round_copy-g.ensures (sym tested ∙ not-false _ c.if-not-is_place.false-raw)
 
 pub closing_number-number-requires : goal.closing_number-number-requires
 closing_number-number-requires c =
-    (config_copy (goal.at.closing_number-number-requires c).After-round_copy-g, version_carried _ _ _ (found (goal.at.closing_number-number-requires c).In-Copies), generation_carried _ _ _ (found (goal.at.closing_number-number-requires c).In-Copies))
+    let at = goal.at.closing_number-number-requires c in
+    (config_copy at.After-round_copy-g (found at.In-Copies) (heard_test at.After-is_place), version_carried _ _ _ (found at.In-Copies), generation_carried _ _ _ (found at.In-Copies))
 
 pub place_figure-requires : goal.place_figure-requires
 place_figure-requires c = rw c.round_place-place.ensures (place_fits _ _ _)
 
 pub returns : goal.returns
 returns c =
+    let at = goal.at.returns c in
     c.diagnosis-2.ensures
-    ∙ diagnosed _ (called c).requires (closes _ (config_copy (goal.at.returns c).After-round_copy-g)) c.closing_number-number.ensures (station_figure_lem _ _ _ (found (goal.at.returns c).In-Copies))
+    ∙ diagnosed _ c.requires (closes _ (config_copy at.After-round_copy-g (found at.In-Copies) (heard_test at.After-is_place))) c.closing_number-number.ensures (station_figure_lem _ _ _ (found at.In-Copies))
     (c.place_figure.ensures ∙ ap place_figure c.round_place-place.ensures)

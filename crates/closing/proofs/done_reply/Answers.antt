@@ -21,7 +21,7 @@ unfolding view
 returns-then-k-eq-READ c =
     let pre = c.requires in
     c.done.ensures
-    ∙ closes-with _ (is_kind 1 c.kind.ensures c.if-k-eq-READ.true) pre.4 (value-is _ _ pre.3 c.value_at.ensures) pre.1 pre.2
+    ∙ closes-with _ (is_kind 1 c.kind-k.ensures c.if-k-eq-READ.true) pre.4 (value-is _ _ pre.3 c.value_at.ensures) pre.1 pre.2
 
 pub value-requires : goal.value-requires
 value-requires c = sound_head _ c.requires.0.0
@@ -33,7 +33,7 @@ writes c = is_kind 2 c.kind-k.ensures c.if-k-eq-WRITE.true
 
 changes : (c : Else-k-eq-WRITE) → OfKind c.args.t.now change
 unfolding view
-changes c = is_change c.kind.ensures c.requires.0.1 c.if-k-eq-READ.false c.if-k-eq-WRITE.false
+changes c = is_change c.kind-k.ensures c.requires.0.1 c.if-k-eq-READ.false c.if-k-eq-WRITE.false
 
 pub next-requires : goal.next-requires
 next-requires c =
@@ -42,8 +42,9 @@ next-requires c =
 pub returns-then-k-eq-WRITE : goal.returns-then-k-eq-WRITE
 unfolding view
 returns-then-k-eq-WRITE c =
+    let at = goal.at.returns-then-k-eq-WRITE c in
     let pre = c.requires in
-    c.done-then-k-eq-WRITE.ensures ∙ closes-with _ (writes (goal.at.returns-then-k-eq-WRITE c).Then-k-eq-WRITE) pre.4 c.value.ensures (c.next.ensures ∙ ap (λ x. x + 1) pre.1) pre.2
+    c.done-then-k-eq-WRITE.ensures ∙ closes-with _ (writes at.Then-k-eq-WRITE) pre.4 c.value.ensures (c.next.ensures ∙ ap (λ x. x + 1) pre.1) pre.2
 
 pub value_at-requires-2 : goal.value_at-requires-2
 value_at-requires-2 c = c.requires.3.1
@@ -54,6 +55,7 @@ next-requires-2 c =
 
 pub returns : goal.returns
 returns c =
+    let at = goal.at.returns c in
     let pre = c.requires in
     c.done-2.ensures
-    ∙ closes-with _ (changes (goal.at.returns c).Else-k-eq-WRITE) pre.4 (value-is _ _ pre.3 c.value_at-2.ensures) pre.1 (c.next-2.ensures ∙ ap (λ x. x + 1) pre.2)
+    ∙ closes-with _ (changes at.Else-k-eq-WRITE) pre.4 (value-is _ _ pre.3 c.value_at-2.ensures) pre.1 (c.next-2.ensures ∙ ap (λ x. x + 1) pre.2)

@@ -2,22 +2,19 @@ use mathlib.Core.Path.{◌≡◌, ◌∙◌}
 use mathlib.Core.Bool.{Bool}
 use borrow.Author.Tests.{not-true, not-false}
 use Rattle.layout.specs.Fields.{write}
-use Rattle.layout.specs.View.{State, view}
+use Rattle.layout.specs.View.{view}
 use Rattle.layout.proofs.Soundness.{sound_head}
 use Rattle.rules.specs.Rules.{spent, written}
 use Rattle.numbers.proofs.Refusals.{last_test}
 use Rattle.closing.proofs.Answers.{spent-number, short-number, done-number, config_is, held}
 use Rattle.closing.proofs.write_number.Goals as goal
-use Rattle.closing.proofs.write_number.Goals.{After-holds_write_set, After-is_last, Start}
-
-abbrev state : Start → State
-state c = view c.args.t.now
+use Rattle.closing.proofs.write_number.Goals.{After-holds_write_set, After-is_last}
 
 -- the code's two tests
-spent-test : (c : After-is_last) {r : Bool} → c.is_last.result ≡ r → spent (state c) write ≡ r
+spent-test : (c : After-is_last) {r : Bool} → c.is_last.result ≡ r → spent (view c.args.t.now) write ≡ r
 spent-test c e = last_test c.is_last.ensures c.requires.1 e
 
-written-test : (c : After-holds_write_set) → written (state c) write ≡ c.holds_write_set.result
+written-test : (c : After-holds_write_set) → written (view c.args.t.now) write ≡ c.holds_write_set.result
 unfolding view
 written-test c =
     held c.holds_write_set.ensures (config_is c.requires.0 c.config_at.ensures) c.data_puts.ensures
@@ -33,8 +30,10 @@ data_puts-requires c = sound_head _ c.requires.0.is_open.0
 
 pub returns-then-not-holds_write_set : goal.returns-then-not-holds_write_set
 returns-then-not-holds_write_set c =
-    short-number _ c.requires.2 (spent-test (goal.at.returns-then-not-holds_write_set c).After-is_last c.if-is_last.false) (written-test (goal.at.returns-then-not-holds_write_set c).After-holds_write_set ∙ not-true _ c.if-not-holds_write_set.true-raw)
+    let at = goal.at.returns-then-not-holds_write_set c in
+    short-number _ c.requires.2 (spent-test at.After-is_last c.if-is_last.false) (written-test at.After-holds_write_set ∙ not-true _ c.if-not-holds_write_set.true-raw)
 
 pub returns : goal.returns
 returns c =
-    done-number _ c.requires.2 (spent-test (goal.at.returns c).After-is_last c.if-is_last.false) (written-test (goal.at.returns c).After-holds_write_set ∙ not-false _ c.if-not-holds_write_set.false-raw)
+    let at = goal.at.returns c in
+    done-number _ c.requires.2 (spent-test at.After-is_last c.if-is_last.false) (written-test at.After-holds_write_set ∙ not-false _ c.if-not-holds_write_set.false-raw)

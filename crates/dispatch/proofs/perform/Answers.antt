@@ -30,7 +30,8 @@ pub returns-then-arguments-frame_length : goal.returns-then-arguments-frame_leng
 returns-then-arguments-frame_length c =
     let a = c.args in
     let e = too_few a.code a.arguments.now (omega (arith, c.frame_length.ensures)) in
-    rw e (c.false_frame.ensures, refl)
+    let both = rw e (c.false_frame.ensures, refl) in
+    record { value = both.0; table_after = both.1 }
 
 pub argument-requires : goal.argument-requires
 unfolding frame_length
@@ -100,75 +101,88 @@ pub returns-in-1 : goal.returns-in-1
 unfolding calls_of
 returns-in-1 c =
     let x = c.ospreyscreen_lay in
-    performed _ (called (goal.at.returns-in-1 c).Else-arguments-frame_length 1 c.in-1.is ∙ rw (c.argument.ensures, c.argument-in-1.ensures, c.u64_at.ensures))
-    x.ensures.0 x.ensures.1
+    let both = performed _ (called (goal.at.returns-in-1 c).Else-arguments-frame_length 1 c.in-1.is ∙ rw (c.argument.ensures, c.argument-in-1.ensures, c.u64_at.ensures))
+    x.ensures.0 x.ensures.1 in
+    record { value = both.0; table_after = both.1 }
 
 pub returns-in-2 : goal.returns-in-2
 unfolding calls_of
 returns-in-2 c =
     let x = c.ospreyscreen_open_read in
-    performed _ (called (goal.at.returns-in-2 c).Else-arguments-frame_length 2 c.in-2.is ∙ rw c.argument-in-2.ensures) x.ensures.0 x.ensures.1
+    let both = performed _ (called (goal.at.returns-in-2 c).Else-arguments-frame_length 2 c.in-2.is ∙ rw c.argument-in-2.ensures) x.ensures.0 x.ensures.1 in
+    record { value = both.0; table_after = both.1 }
 
 pub returns-in-3 : goal.returns-in-3
 unfolding calls_of
 returns-in-3 c =
     let x = c.ospreyscreen_open_write in
-    performed _ (called (goal.at.returns-in-3 c).Else-arguments-frame_length 3 c.in-3.is ∙ rw (c.argument-in-3.ensures, c.u64_at-in-3.ensures)) x.ensures.0 x.ensures.1
+    let both = performed _ (called (goal.at.returns-in-3 c).Else-arguments-frame_length 3 c.in-3.is ∙ rw (c.argument-in-3.ensures, c.u64_at-in-3.ensures)) x.ensures.0 x.ensures.1 in
+    record { value = both.0; table_after = both.1 }
 
 pub returns-in-4 : goal.returns-in-4
 unfolding calls_of
 returns-in-4 c =
     let x = c.ospreyscreen_open_change in
-    performed _ (called (goal.at.returns-in-4 c).Else-arguments-frame_length 4 c.in-4.is ∙ rw c.argument-in-4.ensures) x.ensures.0 x.ensures.1
+    let both = performed _ (called (goal.at.returns-in-4 c).Else-arguments-frame_length 4 c.in-4.is ∙ rw c.argument-in-4.ensures) x.ensures.0 x.ensures.1 in
+    record { value = both.0; table_after = both.1 }
 
 pub returns-in-5 : goal.returns-in-5
 unfolding calls_of
 returns-in-5 c =
     let x = c.ospreyscreen_poll in
-    performed _ (called (goal.at.returns-in-5 c).Else-arguments-frame_length 5 c.in-5.is ∙ rw c.argument-in-5.ensures) x.ensures.0 x.ensures.1
+    let both = performed _ (called (goal.at.returns-in-5 c).Else-arguments-frame_length 5 c.in-5.is ∙ rw c.argument-in-5.ensures) x.ensures.0 x.ensures.1 in
+    record { value = both.0; table_after = both.1 }
 
 pub returns-in-6 : goal.returns-in-6
 unfolding calls_of
 returns-in-6 c =
     let x = c.ospreyscreen_put in
-    performed _ (called (goal.at.returns-in-6 c).Else-arguments-frame_length 6 c.in-6.is ∙ rw (c.argument-in-6.ensures, c.argument-in-6-2.ensures)) x.ensures.0 x.ensures.1
+    let both = performed _ (called (goal.at.returns-in-6 c).Else-arguments-frame_length 6 c.in-6.is ∙ rw (c.argument-in-6.ensures, c.argument-in-6-2.ensures)) x.ensures.0 x.ensures.1 in
+    record { value = both.0; table_after = both.1 }
 
 pub returns-in-7 : goal.returns-in-7
 unfolding calls_of
 returns-in-7 c =
     let x = c.ospreyscreen_commit in
-    performed _ (called (goal.at.returns-in-7 c).Else-arguments-frame_length 7 c.in-7.is) x.ensures.0 x.ensures.1
+    let both = performed _ (called (goal.at.returns-in-7 c).Else-arguments-frame_length 7 c.in-7.is) x.ensures.0 x.ensures.1 in
+    record { value = both.0; table_after = both.1 }
 
 pub returns-in-8 : goal.returns-in-8
 unfolding calls_of
 returns-in-8 c =
     let x = c.ospreyscreen_abandon in
-    performed _ (called (goal.at.returns-in-8 c).Else-arguments-frame_length 8 c.in-8.is) x.ensures.0 x.ensures.1
+    let both = performed _ (called (goal.at.returns-in-8 c).Else-arguments-frame_length 8 c.in-8.is) x.ensures.0 x.ensures.1 in
+    record { value = both.0; table_after = both.1 }
 
 pub returns-in-9 : goal.returns-in-9
 unfolding calls_of
 returns-in-9 c =
     let x = c.ospreyscreen_link in
-    performed _ (called (goal.at.returns-in-9 c).Else-arguments-frame_length 9 c.in-9.is ∙ rw (c.argument-in-9.ensures, c.argument-in-9-2.ensures)) x.ensures.0 x.ensures.1
+    let both = performed _ (called (goal.at.returns-in-9 c).Else-arguments-frame_length 9 c.in-9.is ∙ rw (c.argument-in-9.ensures, c.argument-in-9-2.ensures)) x.ensures.0 x.ensures.1 in
+    record { value = both.0; table_after = both.1 }
 
 pub returns-in-10 : goal.returns-in-10
 unfolding calls_of
 returns-in-10 c =
     let x = c.ospreyscreen_reach in
-    performed _ (called (goal.at.returns-in-10 c).Else-arguments-frame_length 10 c.in-10.is ∙ rw c.argument-in-10.ensures) x.ensures (sym (steps.reach_changes_nothing _ _))
+    let both = performed _ (called (goal.at.returns-in-10 c).Else-arguments-frame_length 10 c.in-10.is ∙ rw c.argument-in-10.ensures) x.ensures (sym (steps.reach_changes_nothing _ _)) in
+    record { value = both.0; table_after = both.1 }
 
 pub returns-in-11 : goal.returns-in-11
 unfolding calls_of
 returns-in-11 c =
-    performed _ (called (goal.at.returns-in-11 c).Else-arguments-frame_length 11 c.in-11.is) c.ospreyscreen_diagnose.ensures (sym (steps.diagnose_changes_nothing _))
+    let both = performed _ (called (goal.at.returns-in-11 c).Else-arguments-frame_length 11 c.in-11.is) c.ospreyscreen_diagnose.ensures (sym (steps.diagnose_changes_nothing _)) in
+    record { value = both.0; table_after = both.1 }
 
 pub returns-in-12 : goal.returns-in-12
 unfolding calls_of
 returns-in-12 c =
     let x = c.ospreyscreen_plan in
-    performed _ (called (goal.at.returns-in-12 c).Else-arguments-frame_length 12 c.in-12.is ∙ rw c.argument-in-12.ensures) x.ensures (sym (steps.plan_changes_nothing _ _))
+    let both = performed _ (called (goal.at.returns-in-12 c).Else-arguments-frame_length 12 c.in-12.is ∙ rw c.argument-in-12.ensures) x.ensures (sym (steps.plan_changes_nothing _ _)) in
+    record { value = both.0; table_after = both.1 }
 
 pub returns-in_default : goal.returns-in_default
 returns-in_default c =
     let a = c.args in
-    rw (other_code a.code a.arguments.now c.in_default.rest) (c.false_frame-in_default.ensures, refl)
+    let both = rw (other_code a.code a.arguments.now c.in_default.rest) (c.false_frame-in_default.ensures, refl) in
+    record { value = both.0; table_after = both.1 }

@@ -5,18 +5,25 @@ use Rattle.form_writer.proofs.Answers.{not_listed, false-configuration, formed}
 use Rattle.form_writer.proofs.standard_form.Goals as goal
 
 pub returns-then-n-eq0 : goal.returns-then-n-eq0
-returns-then-n-eq0 c = not_listed _ _ _ (λ h. omega (arith, h.0, c.if-n-eq0.true))
+returns-then-n-eq0 c =
+    let both = not_listed _ _ _ (λ h. omega (arith, h.0, c.if-n-eq0.true)) in
+    record { value = both.0; out_after = both.1 }
 
 pub returns-then-n-gt16 : goal.returns-then-n-gt16
-returns-then-n-gt16 c = not_listed _ _ _ (λ h. omega (arith, h.1, c.if-n-gt16.true))
+returns-then-n-gt16 c =
+    let both = not_listed _ _ _ (λ h. omega (arith, h.1, c.if-n-gt16.true)) in
+    record { value = both.0; out_after = both.1 }
 
 pub returns-then-out-ne-CONFIG_SIZE : goal.returns-then-out-ne-CONFIG_SIZE
-returns-then-out-ne-CONFIG_SIZE c = not_listed _ _ _ (λ h. c.if-out-ne-CONFIG_SIZE.true h.2)
+returns-then-out-ne-CONFIG_SIZE c =
+    let both = not_listed _ _ _ (λ h. c.if-out-ne-CONFIG_SIZE.true h.2) in
+    record { value = both.0; out_after = both.1 }
 
 pub returns-then-not-is_valid : goal.returns-then-not-is_valid
 returns-then-not-is_valid c =
     let some = c.if-n-eq0.false in
-    false-configuration _ _ _ (omega (arith, some)) c.if-n-gt16.false c.if-out-ne-CONFIG_SIZE.false (sym c.is_valid.ensures ∙ not-true _ c.if-not-is_valid.true-raw)
+    let both = false-configuration _ _ _ (omega (arith, some)) c.if-n-gt16.false c.if-out-ne-CONFIG_SIZE.false (sym c.is_valid.ensures ∙ not-true _ c.if-not-is_valid.true-raw) in
+    record { value = both.0; out_after = both.1 }
 
 pub form_of-requires : goal.form_of-requires
 form_of-requires c =

@@ -3,16 +3,18 @@ use Rattle.layout.proofs.Soundness.{sound_head}
 use Rattle.rules.specs.Calls.{open_read}
 use Rattle.rules.specs.Figures.{figures_of}
 use Rattle.rules.specs.After.{done}
+use Rattle.rules.specs.Needs.{needs}
 use Rattle.openings.proofs.Replies.{refused, plain_finished, shown, item_byte}
 use Rattle.openings.proofs.open_read_on.Goals as goal
 
 pub returns-then-number-ne-DONE : goal.returns-then-number-ne-DONE
 returns-then-number-ne-DONE c =
     let s = c.requires in
-    refused _ s (open_read _) refl c.open_number-number.ensures c.if-number-ne-DONE.true c.plain.ensures
+    let both = refused _ s (open_read _) refl c.open_number-number.ensures c.if-number-ne-DONE.true c.plain.ensures in
+    record { value = both.0; t_after = both.1 }
 
 pub overflow_cast-i : goal.overflow_cast-i
-unfolding needed
+unfolding needs
 overflow_cast-i c =
     let s = c.requires in
     let a = shown _ s (open_read _) refl c.open_number-number.ensures c.if-number-ne-DONE.false in record { fits = item_byte _ s a.1.0 }
@@ -24,4 +26,5 @@ pub returns : goal.returns
 unfolding done figures_of
 returns c =
     let s = c.requires in
-    plain_finished _ s (open_read _) refl c.open_number-number.ensures refl c.if-number-ne-DONE.false c.plain-2.ensures c.set_round.ensures
+    let both = plain_finished _ s (open_read _) refl c.open_number-number.ensures refl c.if-number-ne-DONE.false c.plain-2.ensures c.set_round.ensures in
+    record { value = both.0; t_after = both.1 }

@@ -8,6 +8,7 @@ use Rattle.layout.proofs.Soundness.{sound_head}
 use Rattle.table.specs.ItemCopies.{InTable}
 use Rattle.rounds.proofs.Hearing.{copies_in_table}
 use Rattle.rules.specs.Calls.{reach, plan}
+use Rattle.rules.specs.Needs.{needs}
 use Rattle.openings.proofs.Replies.{refused, finished, shown}
 use Rattle.planning.specs.Planning.{Says}
 use Rattle.planning.specs.declared.FirstHeard.TheVariants.{After, Never}
@@ -17,7 +18,7 @@ use Rattle.planning.proofs.plan_on.Goals.{After-on_bus-on, In-After-2}
 
 -- the item is there
 there : (c : After-on_bus-on) → c.args.i < items c.args.t.now
-unfolding needed view
+unfolding needs view
 there c =
     (shown _ c.requires (reach _) refl c.item_number-number.ensures c.if-number-ne-DONE.false).1.0
 
@@ -25,10 +26,10 @@ in_table : (c : After-on_bus-on) → InTable c.args.t.now c.stations-n.result c.
 in_table c = copies_in_table _ c.requires c.stations-n.ensures (there c)
 
 says : (c : In-After-2)
-    → Says (at-start c).args.t.now c.stations-n.result (at-start c).args.i c.on_bus-on.result
+    → Says c.args.t.now c.stations-n.result c.args.i c.on_bus-on.result
     (After c.in-After.polls c.in-After.newest)
 says c =
-    let said : Says (at-start c).args.t.now c.stations-n.result (at-start c).args.i c.on_bus-on.result
+    let said : Says c.args.t.now c.stations-n.result c.args.i c.on_bus-on.result
     (After c.in-After.polls c.in-After.newest) = rw c.in-After.is at c.first_heard.ensures in said
 
 pub returns-then-number-ne-DONE : goal.returns-then-number-ne-DONE

@@ -1,6 +1,4 @@
 use mathlib.Core.Path.{◌≡◌, sym, ◌∙◌}
-use mathlib.Core.List.{List}
-use Prim.Native.Nat.{ℕ}
 use lib.ListN.{get_or}
 use Rattle.frames.specs.Reading.{byte_or}
 use Rattle.frames.proofs.FrameLines.{short_call, call_byte_lem}
@@ -8,11 +6,7 @@ use Rattle.frames.proofs.Digits.{from_values, small_byte, byte_of_none}
 use Rattle.frames.proofs.frame.call_byte.Goals as goal
 use Rattle.frames.proofs.frame.call_byte.Goals.{After-byte_of_values-byte}
 
--- the two characters that lead the line
-abbrev line_of : After-byte_of_values-byte → List ℕ
-line_of c = c.args.line.now
-
-byte-is : (c : After-byte_of_values-byte) → c.byte_of_values-byte.result ≡ byte_or (get_or (line_of c) 0 0) (get_or (line_of c) 1 0)
+byte-is : (c : After-byte_of_values-byte) → c.byte_of_values-byte.result ≡ byte_or (get_or c.args.line.now 0 0) (get_or c.args.line.now 1 0)
 byte-is c = from_values _ _ c.digit_value.ensures c.digit_value-2.ensures c.byte_of_values-byte.ensures
 
 pub returns-then-line-lt2 : goal.returns-then-line-lt2

@@ -1,6 +1,5 @@
 use mathlib.Core.Path.{◌≡◌, refl}
-use mathlib.Core.List.{List}
-use Prim.Native.Nat.{ℕ, ◌+◌, ◌-◌, ◌*◌}
+use Prim.Native.Nat.{◌+◌, ◌-◌, ◌*◌}
 use native.Mathlib.Omega.{arith}
 use lib.ListN.{get_or, length-set}
 use Rattle.basics.proofs.Tests.{clash}
@@ -11,15 +10,8 @@ use borrow.Author.Rules.{rules}
 use Rattle.frames.proofs.frame.read_bytes.Goals as goal
 use Rattle.frames.proofs.frame.read_bytes.Goals.{After-byte_of_values-byte}
 
--- two characters of the text
-abbrev text_of : After-byte_of_values-byte → List ℕ
-text_of c = c.args.text.now
-
-abbrev k-of : After-byte_of_values-byte → ℕ
-k-of c = c.loop-k.k
-
 byte-is : (c : After-byte_of_values-byte)
-    → c.byte_of_values-byte.result ≡ byte_or (get_or (text_of c) (2 * k-of c) 0) (get_or (text_of c) (2 * k-of c + 1) 0)
+    → c.byte_of_values-byte.result ≡ byte_or (get_or c.args.text.now (2 * c.loop-k.k) 0) (get_or c.args.text.now (2 * c.loop-k.k + 1) 0)
 byte-is c = from_values _ _ c.digit_value.ensures c.digit_value-in-loop-k.ensures c.byte_of_values-byte.ensures
 
 pub loop-k-init : goal.loop-k-init
@@ -28,7 +20,7 @@ loop-k-init c = (search rules, refl, read_start c.args.text.now c.args.bytes.now
 pub returns-then-byte-gt255 : goal.returns-then-byte-gt255
 returns-then-byte-gt255 c = let b = byte-is (goal.at.returns-then-byte-gt255 c).After-byte_of_values-byte in
     let i = c.loop-k in
-    let text = text_of (goal.at.returns-then-byte-gt255 c).After-byte_of_values-byte in
+    let text = c.args.text.now in
     record {
       value = read_stop text i.k (omega arith) (rw (← b) c.if-byte-gt255.true);
       leads = λ e. clash e refl;

@@ -32,14 +32,16 @@ digits-read c =
 
 pub returns-then-n-eq0 : goal.returns-then-n-eq0
 returns-then-n-eq0 c =
-    no_frame_read (line_of (goal.at.returns-then-n-eq0 c).After-frame_length-n) _ (λ f. let h = f.has_call in omega (arith, n-is (goal.at.returns-then-n-eq0 c).After-frame_length-n))
+    let both = no_frame_read (line_of (goal.at.returns-then-n-eq0 c).After-frame_length-n) _ (λ f. let h = f.has_call in omega (arith, n-is (goal.at.returns-then-n-eq0 c).After-frame_length-n)) in
+    record { value = both.0; leads = both.1 }
 
 pub overflow_mul-n : goal.overflow_mul-n
 overflow_mul-n c = omega (arith, n-le (goal.at.overflow_mul-n c).After-frame_length-n)
 
 pub returns-then-line-n : goal.returns-then-line-n
 returns-then-line-n c =
-    no_frame_read (line_of (goal.at.returns-then-line-n c).After-frame_length-n) _ (λ f. c.if-line-n.true (f.its_length ∙ ap (λ n. 2 * n) (sym (n-is (goal.at.returns-then-line-n c).After-frame_length-n))))
+    let both = no_frame_read (line_of (goal.at.returns-then-line-n c).After-frame_length-n) _ (λ f. c.if-line-n.true (f.its_length ∙ ap (λ n. 2 * n) (sym (n-is (goal.at.returns-then-line-n c).After-frame_length-n)))) in
+    record { value = both.0; leads = both.1 }
 
 pub read_bytes-requires : goal.read_bytes-requires
 read_bytes-requires c =
@@ -47,12 +49,14 @@ read_bytes-requires c =
 
 pub returns-then-not-read_bytes : goal.returns-then-not-read_bytes
 returns-then-not-read_bytes c =
-    false_digit_read (line_of (goal.at.returns-then-not-read_bytes c).After-frame_length-n) _ (has (goal.at.returns-then-not-read_bytes c).Else-n-eq0) (n-is (goal.at.returns-then-not-read_bytes c).After-frame_length-n) c.if-line-n.false _ (sym (digits-read (goal.at.returns-then-not-read_bytes c).After-read_bytes) ∙ not-true _ c.if-not-read_bytes.true-raw)
+    let both = false_digit_read (line_of (goal.at.returns-then-not-read_bytes c).After-frame_length-n) _ (has (goal.at.returns-then-not-read_bytes c).Else-n-eq0) (n-is (goal.at.returns-then-not-read_bytes c).After-frame_length-n) c.if-line-n.false _ (sym (digits-read (goal.at.returns-then-not-read_bytes c).After-read_bytes) ∙ not-true _ c.if-not-read_bytes.true-raw) in
+    record { value = both.0; leads = both.1 }
 
 pub returns : goal.returns
 returns c =
     let all = not-false _ c.if-not-read_bytes.false-raw in
     let whole = behind (line_of (goal.at.returns c).After-frame_length-n) _ (has (goal.at.returns c).Else-n-eq0) (n-is (goal.at.returns c).After-frame_length-n) c.if-line-n.false in
     let leads = rw whole at (c.read_bytes.ensures.leads all) in
-    rw c.requires.0
-    (frame_read (line_of (goal.at.returns c).After-frame_length-n) _ (has (goal.at.returns c).Else-n-eq0) (n-is (goal.at.returns c).After-frame_length-n) c.if-line-n.false _ (sym (digits-read (goal.at.returns c).After-read_bytes) ∙ all) leads)
+    let both = rw c.requires.0
+    (frame_read (line_of (goal.at.returns c).After-frame_length-n) _ (has (goal.at.returns c).Else-n-eq0) (n-is (goal.at.returns c).After-frame_length-n) c.if-line-n.false _ (sym (digits-read (goal.at.returns c).After-read_bytes) ∙ all) leads) in
+    record { value = both.0; leads = both.1 }
