@@ -1,14 +1,13 @@
 use mathlib.Core.Path.{sym, ◌∙◌}
 use Prim.Native.Nat.{◌+◌}
 use native.Mathlib.Omega.{arith}
-use Rattle.layout.specs.Walk.{walk}
 use Rattle.layout.proofs.Along.{left_less}
 use Rattle.layout.proofs.OneWalk.{walk_empty}
+use Rattle.rounds.specs.Heard.{HasFound}
 use Rattle.planning.proofs.Walking.{Position, position_start, count_fits, next-below, turn, none_yet, none_more}
-use Rattle.planning.proofs.Hearing.{says_after, says_never}
-use Rattle.planning.proofs.first_heard.Invariants.{found}
+use Rattle.planning.proofs.Hearing.{walk_turn, says_after, says_never}
 use Rattle.planning.proofs.first_heard.Goals as goal
-use Rattle.planning.proofs.first_heard.Goals.{After-with_station-polled}
+use Rattle.planning.proofs.first_heard.Goals.{After-onward-newest, After-with_station-polled}
 
 pub loop-rest-init : goal.loop-rest-init
 loop-rest-init c = (position_start _ c.ranges.on.fits, none_yet, sym (walk_empty _ _))
@@ -27,12 +26,18 @@ stepped : (c : After-with_station-polled)
 stepped c =
     turn c.loop-rest.invariant.0 c.loop-rest-test.true c.lowest-s.ensures c.without_lowest-rest.ensures c.with_station-polled.ensures
 
+found : (c : After-onward-newest) → let a = c.args in HasFound a.t.now a.n a.item c.with_station-polled.result c.onward-newest.result
+found c =
+    let inv = c.loop-rest.invariant in
+    walk_turn _ _ inv.0 c.requires.1 c.loop-rest-test.true inv.2 c.lowest-s.ensures c.with_station-polled.ensures c.onward-newest.ensures
+
 pub is_heard-requires : goal.is_heard-requires
 is_heard-requires c = (c.requires.0, found (goal.at.is_heard-requires c).After-onward-newest)
 
 pub returns-then-is_heard : goal.returns-then-is_heard
 returns-then-is_heard c =
-    says_after _ _ _ c.loop-rest.invariant.1 (stepped (goal.at.returns-then-is_heard c).After-with_station-polled) (found (goal.at.returns-then-is_heard c).After-onward-newest) (sym c.is_heard.ensures ∙ c.if-is_heard.true)
+    let at = goal.at.returns-then-is_heard c in
+    says_after _ _ _ c.loop-rest.invariant.1 (stepped at.After-with_station-polled) (found at.After-onward-newest) (sym c.is_heard.ensures ∙ c.if-is_heard.true)
 
 pub loop-rest-smaller : goal.loop-rest-smaller
 loop-rest-smaller c =
@@ -40,10 +45,11 @@ loop-rest-smaller c =
 
 pub loop-rest-preserved : goal.loop-rest-preserved
 loop-rest-preserved c =
-    let after = stepped (goal.at.loop-rest-preserved c).After-with_station-polled in (
+    let at = goal.at.loop-rest-preserved c in
+    let after = stepped at.After-with_station-polled in (
       after,
       none_more c.loop-rest.invariant.1 after (sym c.is_heard.ensures ∙ c.if-is_heard.false),
-      sym (found (goal.at.loop-rest-preserved c).After-onward-newest),
+      sym (found at.After-onward-newest),
     )
 
 pub returns : goal.returns

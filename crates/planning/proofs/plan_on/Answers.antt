@@ -10,11 +10,9 @@ use Rattle.rounds.proofs.Hearing.{copies_in_table}
 use Rattle.rules.specs.Calls.{reach, plan}
 use Rattle.rules.specs.Needs.{needs}
 use Rattle.openings.proofs.Replies.{refused, finished, shown}
-use Rattle.planning.specs.Planning.{Says}
-use Rattle.planning.specs.declared.FirstHeard.TheVariants.{After, Never}
 use Rattle.planning.proofs.Plans.{no_item_lem, on_within, unheard, heard, figures}
 use Rattle.planning.proofs.plan_on.Goals as goal
-use Rattle.planning.proofs.plan_on.Goals.{After-on_bus-on, In-After-2}
+use Rattle.planning.proofs.plan_on.Goals.{After-on_bus-on}
 
 -- the item is there
 there : (c : After-on_bus-on) → c.args.i < items c.args.t.now
@@ -24,13 +22,6 @@ there c =
 
 in_table : (c : After-on_bus-on) → InTable c.args.t.now c.stations-n.result c.args.i
 in_table c = copies_in_table _ c.requires c.stations-n.ensures (there c)
-
-says : (c : In-After-2)
-    → Says c.args.t.now c.stations-n.result c.args.i c.on_bus-on.result
-    (After c.in-After.polls c.in-After.newest)
-says c =
-    let said : Says c.args.t.now c.stations-n.result c.args.i c.on_bus-on.result
-    (After c.in-After.polls c.in-After.newest) = rw c.in-After.is at c.first_heard.ensures in said
 
 pub returns-then-number-ne-DONE : goal.returns-then-number-ne-DONE
 returns-then-number-ne-DONE c =
@@ -44,24 +35,26 @@ pub on_bus-on-requires : goal.on_bus-on-requires
 on_bus-on-requires c = sound_head _ c.requires
 
 pub first_heard-requires : goal.first_heard-requires
-first_heard-requires c = (in_table (goal.at.first_heard-requires c).After-on_bus-on, on_within _ c.requires _ (there (goal.at.first_heard-requires c).After-on_bus-on) c.stations-n.ensures c.on_bus-on.ensures)
+first_heard-requires c =
+    let at = goal.at.first_heard-requires c in
+    (in_table at.After-on_bus-on, on_within _ c.requires _ (there at.After-on_bus-on) c.stations-n.ensures c.on_bus-on.ensures)
 
 pub returns-in_default : goal.returns-in_default
 returns-in_default c =
-    let said : Says c.args.t.now c.stations-n.result c.args.i c.on_bus-on.result Never = rw c.in_default.is
-    at c.first_heard.ensures in
-    (refused _ c.requires (plan _) refl (unheard _ c.requires _ (there (goal.at.returns-in_default c).After-on_bus-on) c.stations-n.ensures c.on_bus-on.ensures said) (omega arith)
+    let at = goal.at.returns-in_default c in
+    (refused _ c.requires (plan _) refl (unheard _ c.requires _ (there at.After-on_bus-on) c.stations-n.ensures c.on_bus-on.ensures c.in_default.ensures) (omega arith)
     c.plain-in_default.ensures).0
 
 pub config_found-requires : goal.config_found-requires
-config_found-requires c = (in_table (goal.at.config_found-requires c).After-on_bus-on, generation_below _ _ _ (says (goal.at.config_found-requires c).In-After-2).2)
+config_found-requires c = (in_table (goal.at.config_found-requires c).After-on_bus-on, generation_below _ _ _ c.in-After.ensures.2)
 
 pub returns : goal.returns
 returns c =
+    let at = goal.at.returns c in
     let s = c.requires in
     let n = c.stations-n.ensures in
     let on = c.on_bus-on.ensures in
     let newest = c.in-After.newest in
     let config = c.config_found.ensures in
-    (finished _ s (plan _) refl (heard _ s _ (there (goal.at.returns c).After-on_bus-on) n on newest (says (goal.at.returns c).In-After-2) config c.puts_needed.ensures) refl
-    (figures _ s _ (there (goal.at.returns c).After-on_bus-on) n on newest (says (goal.at.returns c).In-After-2) config c.puts_needed.ensures) refl).0
+    (finished _ s (plan _) refl (heard _ s _ (there at.After-on_bus-on) n on newest c.in-After.ensures config c.puts_needed.ensures) refl
+    (figures _ s _ (there at.After-on_bus-on) n on newest c.in-After.ensures config c.puts_needed.ensures) refl).0

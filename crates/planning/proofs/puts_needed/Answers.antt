@@ -20,7 +20,8 @@ stepped c =
 
 pub returns-then-holds_write_set : goal.returns-then-holds_write_set
 returns-then-holds_write_set c =
-    sym (first_passes c.loop-rest.invariant.1 (stepped (goal.at.returns-then-holds_write_set c).After-with_station-written) (sym c.holds_write_set.ensures ∙ c.if-holds_write_set.true))
+    let at = goal.at.returns-then-holds_write_set c in
+    sym (first_passes c.loop-rest.invariant.1 (stepped at.After-with_station-written) (sym c.holds_write_set.ensures ∙ c.if-holds_write_set.true))
 
 pub loop-rest-smaller : goal.loop-rest-smaller
 loop-rest-smaller c =
