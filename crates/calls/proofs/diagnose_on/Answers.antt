@@ -13,12 +13,14 @@ own-number c = c.idle_number-number.ensures ∙ diagnose_asks _
 
 pub returns-then-number-ne-DONE : goal.returns-then-number-ne-DONE
 returns-then-number-ne-DONE c =
-    (refused _ c.requires diagnose refl (own-number (goal.at.returns-then-number-ne-DONE c).After-idle_number-number) c.if-number-ne-DONE.true c.plain.ensures).0
+    let at = goal.at.returns-then-number-ne-DONE c in
+    (refused _ c.requires diagnose refl (own-number at.After-idle_number-number) c.if-number-ne-DONE.true c.plain.ensures).0
 
 pub diagnose_reply-requires : goal.diagnose_reply-requires
 unfolding needs
 diagnose_reply-requires c =
-    let s = c.requires in (s, (shown _ s diagnose refl (own-number (goal.at.diagnose_reply-requires c).After-idle_number-number) c.if-number-ne-DONE.false).1.0)
+    let at = goal.at.diagnose_reply-requires c in
+    let s = c.requires in (s, (shown _ s diagnose refl (own-number at.After-idle_number-number) c.if-number-ne-DONE.false).1.0)
 
 pub returns : goal.returns
 returns c = c.diagnose_reply.ensures

@@ -43,8 +43,9 @@ place_figure-requires c =
 pub returns : goal.returns
 unfolding done view
 returns c =
-    let item = ap (λ r. r.item) (round (goal.at.returns c).After-poll-round) in
-    let set = ap (λ r. r.polled) (round (goal.at.returns c).After-poll-round) in
+    let at = goal.at.returns c in
+    let item = ap (λ r. r.item) (round at.After-poll-round) in
+    let set = ap (λ r. r.polled) (round at.After-poll-round) in
     let figure = poll_figure _ _ c.stations.ensures item set c.heard_place-place.ensures c.place_figure.ensures in
     let both = finished _ c.requires (poll _) refl c.poll_number-number.ensures c.if-number-ne-DONE.false figure
     (c.set_polled.ensures ∙ ap (set_polled _) set) in

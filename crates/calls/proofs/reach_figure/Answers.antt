@@ -18,8 +18,7 @@ in_table : (c : After-on_bus-on) → InTable c.args.t.now c.stations-n.result c.
 in_table c =
     copies_in_table _ c.requires.0 c.stations-n.ensures c.requires.1
 
-found : (c : In-Copies) → let bus = c in
-    HasFound bus.args.t.now bus.stations-n.result bus.args.i bus.on_bus-on.result c.in-Copies.newest
+found : (c : In-Copies) → HasFound c.args.t.now c.stations-n.result c.args.i c.on_bus-on.result c.in-Copies.newest
 found c = has_found c.walk-found.ensures.walked c.in-Copies.is
 
 pub stations-n-requires : goal.stations-n-requires
@@ -37,23 +36,31 @@ returns-in_default c =
     (nobody_hears _ _ _ (nobody_found c.walk-found.ensures.walked c.in_default.is))
 
 pub is_heard-requires : goal.is_heard-requires
-is_heard-requires c = (in_table (goal.at.is_heard-requires c).After-on_bus-on, found (goal.at.is_heard-requires c).In-Copies)
+is_heard-requires c =
+    let at = goal.at.is_heard-requires c in
+    (in_table at.After-on_bus-on, found at.In-Copies)
 
 pub returns-then-not-is_heard : goal.returns-then-not-is_heard
 returns-then-not-is_heard c =
     not_reached _ _ c.stations-n.ensures c.on_bus-on.ensures (sym c.is_heard.ensures ∙ not-true _ c.if-not-is_heard.true-raw)
 
 pub config_found-requires : goal.config_found-requires
-config_found-requires c = (in_table (goal.at.config_found-requires c).After-on_bus-on, generation_below _ _ _ (found (goal.at.config_found-requires c).In-Copies))
+config_found-requires c =
+    let at = goal.at.config_found-requires c in
+    (in_table at.After-on_bus-on, generation_below _ _ _ (found at.In-Copies))
 
-figure : (c : After-holds_write_set) {r : Bool} → c.holds_write_set.result ≡ r → let start = c in
-    cond r 3 1 ≡ reach_figure (view start.args.t.now) start.args.i
-figure c e =
+figure : (c : After-holds_write_set) {r : Bool} → HasFound c.args.t.now c.stations-n.result c.args.i c.on_bus-on.result c.in-Copies.newest
+    → c.holds_write_set.result ≡ r → cond r 3 1 ≡ reach_figure (view c.args.t.now) c.args.i
+figure c own e =
     reached _ _ c.stations-n.ensures c.on_bus-on.ensures (sym c.is_heard.ensures ∙ not-false _ c.if-not-is_heard.false-raw)
-    (found c) c.config_found.ensures (sym e ∙ c.holds_write_set.ensures)
+    own c.config_found.ensures (sym e ∙ c.holds_write_set.ensures)
 
 pub returns-then-not-holds_write_set : goal.returns-then-not-holds_write_set
-returns-then-not-holds_write_set c = figure (goal.at.returns-then-not-holds_write_set c).After-holds_write_set (not-true _ c.if-not-holds_write_set.true-raw)
+returns-then-not-holds_write_set c =
+    let at = goal.at.returns-then-not-holds_write_set c in
+    figure at.After-holds_write_set (found at.In-Copies) (not-true _ c.if-not-holds_write_set.true-raw)
 
 pub returns : goal.returns
-returns c = figure (goal.at.returns c).After-holds_write_set (not-false _ c.if-not-holds_write_set.false-raw)
+returns c =
+    let at = goal.at.returns c in
+    figure at.After-holds_write_set (found at.In-Copies) (not-false _ c.if-not-holds_write_set.false-raw)
