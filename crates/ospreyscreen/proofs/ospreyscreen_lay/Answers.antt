@@ -19,10 +19,10 @@ returns-then-number-ne-DONE c =
 
 -- the call is done
 allowed : (c : Else-number-ne-DONE)
-    → let a = c.args in number_of (view a.table-1.now) (lay a.n a.m a.value a.config.now) ≡ 0
+    → let a = c.args in number_of (view a.table.now) (lay a.n a.m a.value a.config.now) ≡ 0
 allowed c =
     let a = c.args in
-    sym (c.lay_number-number.ensures ∙ lay_number_is a.table-1.now _ _ a.value a.config.now) ∙ c.if-number-ne-DONE.false
+    sym (c.lay_number-number.ensures ∙ lay_number_is a.table.now _ _ a.value a.config.now) ∙ c.if-number-ne-DONE.false
 
 pub form_of-form-requires : goal.form_of-form-requires
 form_of-form-requires c = (_, lay_valid _ _ _ _ _ (allowed (goal.at.form_of-form-requires c).Else-number-ne-DONE))
