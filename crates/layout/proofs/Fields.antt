@@ -274,7 +274,9 @@ module _ (t : List ℕ) (bytes : AreBytes t) where
 
   pub puts_bytes : (data_puts config_puts : ℕ) → AreBytes (set_puts t data_puts config_puts)
   unfolding set_puts
-  puts_bytes d c = bytes_over t data_puts_at (bytes_of 2 d ++ bytes_of 2 c) bytes (bytes_append (bytes_of 2 d) (bytes_of 2 c) (bytes_of_lem 2 d) (bytes_of_lem 2 c))
+  puts_bytes d c =
+      bytes_over t data_puts_at (bytes_of 2 d ++ bytes_of 2 c) bytes
+      (bytes_append (bytes_of 2 d) (bytes_of 2 c) (bytes_of_lem 2 d) (bytes_of_lem 2 c))
 
   pub round_bytes : (kind item value : ℕ) (target : List ℕ) → kind < 256 → item < 256 → AreBytes target
       → AreBytes (set_round t kind item value target)
@@ -286,7 +288,8 @@ module _ (t : List ℕ) (bytes : AreBytes t) where
   pub data_bytes : (at version value : ℕ) → AreBytes (put_data t at version value)
   unfolding put_data
   data_bytes at x y =
-      bytes_over t (at + copy_version_at) (bytes_of 8 x ++ bytes_of 8 y) bytes (bytes_append (bytes_of 8 x) (bytes_of 8 y) (bytes_of_lem 8 x) (bytes_of_lem 8 y))
+      bytes_over t (at + copy_version_at) (bytes_of 8 x ++ bytes_of 8 y) bytes
+      (bytes_append (bytes_of 8 x) (bytes_of 8 y) (bytes_of_lem 8 x) (bytes_of_lem 8 y))
 
   pub config_bytes_lem : (at generation : ℕ) (config : List ℕ) → AreBytes config → AreBytes (put_config t at generation config)
   unfolding put_config
@@ -352,7 +355,8 @@ module _ (t : List ℕ) (at : ℕ) (fits : at + copy_size ≤ length t) where
           version = data_first hx i;
           value = (ap little_endian data_rest ∙ read_bytes 8 value hy) i;
           generation =
-              number_kept f (at + copy_generation_at) 8 (outside_after at (at + copy_generation_at) (at + copy_generation_at) 8 (le_refl (at + copy_generation_at))) i;
+              number_kept f (at + copy_generation_at) 8
+              (outside_after at (at + copy_generation_at) (at + copy_generation_at) 8 (le_refl (at + copy_generation_at))) i;
           config = f.kept (at + copy_config_at) config_size (outside_after at (at + copy_generation_at) (at + copy_config_at) config_size (omega arith)) i;
         }
 

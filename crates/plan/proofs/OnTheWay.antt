@@ -9,6 +9,6 @@ use Rattle.plan.specs.Plan.{polls_needed, puts_needed}
 use Rattle.plan.specs.OnTheWay.{OnTheWay}
 
 pub on_the_way : OnTheWay
-unfolding passing little_endian member used holds join set_at read_set write_set holds_place first_place or_else first_read first_write place_figure is_place newest
-    by_generation hears polls_needed puts_needed
+unfolding passing little_endian member used holds join set_at read_set write_set holds_place first_place or_else first_read first_write place_figure is_place
+    newest by_generation hears polls_needed puts_needed
 on_the_way = (refl, refl)

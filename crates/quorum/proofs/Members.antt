@@ -124,7 +124,8 @@ below-first : (k a i : ℕ) → i < count_trailing_zeros k a → member a i ≡ 
 unfolding count_trailing_zeros
 below-first zero a i l = absurd (not-suc-le-zero l)
 below-first (suc k) a zero l =
-    by_digit a (λ (d : ℕ). 0 < under d (count_trailing_zeros k (a / 2)) → member a 0 ≡ false) (λ e l. rw (member-zero a, e)) (λ e l. absurd (not-suc-le-zero l)) l
+    by_digit a (λ (d : ℕ). 0 < under d (count_trailing_zeros k (a / 2)) → member a 0 ≡ false)
+    (λ e l. rw (member-zero a, e)) (λ e l. absurd (not-suc-le-zero l)) l
 below-first (suc k) a (suc i) l =
     by_digit a (λ (d : ℕ). suc i < under d (count_trailing_zeros k (a / 2)) → member a (suc i) ≡ false)
     (λ e l. member-suc a i ∙ below-first k (a / 2) i (omega arith)) (λ e l. absurd (not-suc-le-zero l)) l

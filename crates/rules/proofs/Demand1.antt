@@ -57,4 +57,5 @@ other_calls_have_no_figures t c h = rw (without_figures (view t) c h) (no_figure
 pub number_is_listed : (t : List ℕ) (c : Call) → ListedNumber c (reply t c).number
 unfolding reply_of
 number_is_listed t c =
-    let v = view t in gets-listed (ListedNumber c) (inl (omega arith)) (needs v c) (judged v c).listed (number_of v c) ((number-gets v c (number_of v c)).0 refl)
+    let v = view t in
+    gets-listed (ListedNumber c) (inl (omega arith)) (needs v c) (judged v c).listed (number_of v c) ((number-gets v c (number_of v c)).0 refl)

@@ -38,8 +38,8 @@ some_lines = refl
 
 -- ---- whole runs
 pub frame_cases : FrameCases
-unfolding text chars shown little_endian is_digit all_digits value_of byte_of bytes_in frame_length call_byte is_frame calls_of call_at call_of in_front lines_of
-    run answers printed table_after reply_to lent lay_length reply_line reply_bytes digit_of hex_of reply_of after number_of tests refusals first view
+unfolding text chars shown little_endian is_digit all_digits value_of byte_of bytes_in frame_length call_byte is_frame calls_of call_at call_of in_front
+    lines_of run answers printed table_after reply_to lent lay_length reply_line reply_bytes digit_of hex_of reply_of after number_of tests refusals first view
     figures_of done table_length address sound soundness round_sound copies_valid all all_below any_below valid validity set_at read_set write_set used_first
     some_used all_within shares_all all_share holds_place first_place or_else first_read first_write place_figure is_place member used holds shares within join
     minus remove full copy_from bytes_of over set_off set_polled set_puts set_round put_data put_config copy_bytes repeated put_copies newest by_version

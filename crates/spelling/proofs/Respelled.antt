@@ -16,7 +16,8 @@ use Rattle.quorum.specs.Promise.{SamePasses}
 use Rattle.form.specs.Form.{standard_form}
 use Rattle.form.proofs.Laws.{form_length, form_bytes, form_valid, form_spells, spells_itself, form_nothing}
 use Rattle.layout.specs.Layout.{target_at, copies_at, copy_size, copy_version_at, copy_value_at, copy_generation_at, copy_config_at}
-use Rattle.layout.specs.Layout.{stations_at, items_at, off_at, kind_at, item_at, polled_at, data_puts_at, config_puts_at, spare_at, value_at, address, table_length}
+use Rattle.layout.specs.Layout.{stations_at, items_at, off_at, kind_at, item_at, polled_at, data_puts_at, config_puts_at}
+use Rattle.layout.specs.Layout.{spare_at, value_at, address, table_length}
 use Rattle.layout.specs.Fields.{Copy, new_copy, Kind, none, read, write, change, kind_of, Round, stations, items, round_of, copy_from}
 use Rattle.layout.specs.Soundness.{sound}
 use Rattle.layout.specs.View.{Table, view, ContentsBy}

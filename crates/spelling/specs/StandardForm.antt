@@ -26,7 +26,8 @@ pub record StandardForm : Type 0 where
   pub same_form : (n m : ℕ) (c d : List ℕ) → valid n c ≡ true → valid m d ≡ true → (standard_form n c ≡ standard_form m d) ↔ SamePasses c d
   -- of configurations of n stations it is enough to try the sets of these
   pub stations_decide : (n : ℕ) (c d : List ℕ) → valid n c ≡ true → valid n d ≡ true
-      → ((set : ℕ) → within n set ≡ true → (holds_read c set ≡ holds_read d set) × (holds_write c set ≡ holds_write d set)) → standard_form n c ≡ standard_form n d
+      → ((set : ℕ) → within n set ≡ true → (holds_read c set ≡ holds_read d set) × (holds_write c set ≡ holds_write d set))
+      → standard_form n c ≡ standard_form n d
   -- a form is its own form, and so are 32 zeros, which a table has for a target while no change is open
   pub own_form : (n : ℕ) (c : List ℕ) → valid n c ≡ true → standard_form n (standard_form n c) ≡ standard_form n c
   pub zeros_own_form : (n : ℕ) → standard_form n (replicate config_size 0) ≡ replicate config_size 0

@@ -22,6 +22,6 @@ unfolding sum_below votes_of member minus remove all_below reaches smallest pass
 sets = refl
 
 majority : votes_output (1 ∷ 1 ∷ 1 ∷ []) 2 2 blank ≡ (3 ∷ 0 ∷ 5 ∷ 0 ∷ 6 ∷ 0 ∷ replicate 10 0) ++ (3 ∷ 0 ∷ 5 ∷ 0 ∷ 6 ∷ 0 ∷ replicate 10 0)
-unfolding sum_below votes_of member minus remove total all all_below reaches smallest passing smallest_sets true_votes too_many first votes_refusals votes_number
-    bytes_of places side_bytes config_bytes configuration_of votes_output
+unfolding sum_below votes_of member minus remove total all all_below reaches smallest passing smallest_sets true_votes too_many first votes_refusals
+    votes_number bytes_of places side_bytes config_bytes configuration_of votes_output
 majority = refl

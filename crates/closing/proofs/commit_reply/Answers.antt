@@ -48,7 +48,9 @@ closing_number-number-requires c =
 pub returns-then-number-ne-DONE : goal.returns-then-number-ne-DONE
 returns-then-number-ne-DONE c =
     let at = goal.at.returns-then-number-ne-DONE c in
-    c.plain-then-number-ne-DONE.ensures ∙ refused-reply _ c.closing_number-number.ensures c.if-number-ne-DONE.true ∙ closes _ (config_copy at.After-round_copy-g (found at.In-Copies))
+    c.plain-then-number-ne-DONE.ensures
+    ∙ refused-reply _ c.closing_number-number.ensures c.if-number-ne-DONE.true
+    ∙ closes _ (config_copy at.After-round_copy-g (found at.In-Copies))
 
 pub round_copy-b-requires : goal.round_copy-b-requires
 round_copy-b-requires c =

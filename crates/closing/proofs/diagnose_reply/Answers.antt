@@ -36,7 +36,9 @@ returns-in_default c =
 
 pub overflow_add-station : goal.overflow_add-station
 unfolding view
-overflow_add-station c = omega (arith, version_there _ (found (goal.at.overflow_add-station c).In-Copies), (is_sound_lem _ c.requires.0).small)
+overflow_add-station c =
+    let at = goal.at.overflow_add-station c in
+    omega (arith, version_there _ (found at.In-Copies), (is_sound_lem _ c.requires.0).small)
 
 pub round_place-place-requires : goal.round_place-place-requires
 round_place-place-requires c = (c.requires.0, found (goal.at.round_place-place-requires c).In-Copies)
@@ -63,7 +65,8 @@ config_copy c own tested =
 pub closing_number-number-requires : goal.closing_number-number-requires
 closing_number-number-requires c =
     let at = goal.at.closing_number-number-requires c in
-    (config_copy at.After-round_copy-g (found at.In-Copies) (heard_test at.After-is_place), version_carried _ _ _ (found at.In-Copies), generation_carried _ _ _ (found at.In-Copies))
+    let own = found at.In-Copies in
+    (config_copy at.After-round_copy-g own (heard_test at.After-is_place), version_carried _ _ _ own, generation_carried _ _ _ own)
 
 pub place_figure-requires : goal.place_figure-requires
 place_figure-requires c = rw c.round_place-place.ensures (place_fits _ _ _)
@@ -71,6 +74,8 @@ place_figure-requires c = rw c.round_place-place.ensures (place_fits _ _ _)
 pub returns : goal.returns
 returns c =
     let at = goal.at.returns c in
+    let own = found at.In-Copies in
     c.diagnosis-2.ensures
-    ∙ diagnosed _ c.requires (closes _ (config_copy at.After-round_copy-g (found at.In-Copies) (heard_test at.After-is_place))) c.closing_number-number.ensures (station_figure_lem _ _ _ (found at.In-Copies))
+    ∙ diagnosed _ c.requires (closes _ (config_copy at.After-round_copy-g own (heard_test at.After-is_place))) c.closing_number-number.ensures
+    (station_figure_lem _ _ _ own)
     (c.place_figure.ensures ∙ ap place_figure c.round_place-place.ensures)

@@ -51,7 +51,8 @@ value_at-requires-2 c = c.requires.3.1
 
 pub next-requires-2 : goal.next-requires-2
 next-requires-2 c =
-    not_last c.args.generation.0 (search rules) c.requires.2 (not-spent _ (changes (goal.at.next-requires-2 c).Else-k-eq-WRITE) c.requires.4)
+    let at = goal.at.next-requires-2 c in
+    not_last c.args.generation.0 (search rules) c.requires.2 (not-spent _ (changes at.Else-k-eq-WRITE) c.requires.4)
 
 pub returns : goal.returns
 returns c =

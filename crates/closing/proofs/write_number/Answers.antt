@@ -11,16 +11,16 @@ use Rattle.closing.proofs.write_number.Goals as goal
 use Rattle.closing.proofs.write_number.Goals.{After-holds_write_set, After-is_last}
 
 -- the code's two tests
-spent-test : (c : After-is_last) {r : Bool} → c.is_last.result ≡ r → spent (view c.args.t.now) write ≡ r
-spent-test c e = last_test c.is_last.ensures c.requires.1 e
+spent_test : (c : After-is_last) {r : Bool} → c.is_last.result ≡ r → spent (view c.args.t.now) write ≡ r
+spent_test c e = last_test c.is_last.ensures c.requires.1 e
 
-written-test : (c : After-holds_write_set) → written (view c.args.t.now) write ≡ c.holds_write_set.result
+written_test : (c : After-holds_write_set) → written (view c.args.t.now) write ≡ c.holds_write_set.result
 unfolding view
-written-test c =
+written_test c =
     held c.holds_write_set.ensures (config_is c.requires.0 c.config_at.ensures) c.data_puts.ensures
 
 pub returns-then-is_last : goal.returns-then-is_last
-returns-then-is_last c = spent-number _ c.requires.2 (spent-test (goal.at.returns-then-is_last c).After-is_last c.if-is_last.true)
+returns-then-is_last c = spent-number _ c.requires.2 (spent_test (goal.at.returns-then-is_last c).After-is_last c.if-is_last.true)
 
 pub config_at-requires : goal.config_at-requires
 config_at-requires c = c.requires.0.fits
@@ -31,9 +31,11 @@ data_puts-requires c = sound_head _ c.requires.0.is_open.0
 pub returns-then-not-holds_write_set : goal.returns-then-not-holds_write_set
 returns-then-not-holds_write_set c =
     let at = goal.at.returns-then-not-holds_write_set c in
-    short-number _ c.requires.2 (spent-test at.After-is_last c.if-is_last.false) (written-test at.After-holds_write_set ∙ not-true _ c.if-not-holds_write_set.true-raw)
+    let unspent = spent_test at.After-is_last c.if-is_last.false in
+    short-number _ c.requires.2 unspent (written_test at.After-holds_write_set ∙ not-true _ c.if-not-holds_write_set.true-raw)
 
 pub returns : goal.returns
 returns c =
     let at = goal.at.returns c in
-    done-number _ c.requires.2 (spent-test at.After-is_last c.if-is_last.false) (written-test at.After-holds_write_set ∙ not-false _ c.if-not-holds_write_set.false-raw)
+    let unspent = spent_test at.After-is_last c.if-is_last.false in
+    done-number _ c.requires.2 unspent (written_test at.After-holds_write_set ∙ not-false _ c.if-not-holds_write_set.false-raw)

@@ -53,7 +53,7 @@ pub shape_of-out : goal.shape_of-out
 shape_of-out c = c.loop-s.invariant.out_kept
 
 pub returns : goal.returns
-returns c = 
+returns c =
     record {
       takes = c.loop-s.invariant;
       ended_or_full = inl c.loop-s-test.false;

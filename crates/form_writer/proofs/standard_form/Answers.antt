@@ -22,7 +22,8 @@ returns-then-out-ne-CONFIG_SIZE c =
 pub returns-then-not-is_valid : goal.returns-then-not-is_valid
 returns-then-not-is_valid c =
     let some = c.if-n-eq0.false in
-    let both = false-configuration _ _ _ (omega (arith, some)) c.if-n-gt16.false c.if-out-ne-CONFIG_SIZE.false (sym c.is_valid.ensures ∙ not-true _ c.if-not-is_valid.true-raw) in
+    let both = false-configuration _ _ _ (omega (arith, some)) c.if-n-gt16.false c.if-out-ne-CONFIG_SIZE.false
+    (sym c.is_valid.ensures ∙ not-true _ c.if-not-is_valid.true-raw) in
     record { value = both.0; out_after = both.1 }
 
 pub form_of-requires : goal.form_of-requires
@@ -31,7 +32,8 @@ form_of-requires c =
 
 pub returns : goal.returns
 returns c = let some = c.if-n-eq0.false in
-    let answer = formed _ _ _ (omega (arith, some)) c.if-n-gt16.false c.if-out-ne-CONFIG_SIZE.false (sym c.is_valid.ensures ∙ not-false _ c.if-not-is_valid.false-raw) in
+    let answer = formed _ _ _ (omega (arith, some)) c.if-n-gt16.false c.if-out-ne-CONFIG_SIZE.false
+    (sym c.is_valid.ensures ∙ not-false _ c.if-not-is_valid.false-raw) in
     record {
       value = answer.0;
       out_after = c.put_config_bytes.ensures ∙ rw c.form_of.ensures answer.1;

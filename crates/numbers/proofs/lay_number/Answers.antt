@@ -11,15 +11,15 @@ use Rattle.numbers.proofs.lay_number.Goals as goal
 use Rattle.numbers.proofs.lay_number.Goals.{Else-need-eq0}
 
 -- a lay that needs some length has a size that there is, and needs the length of its table
-is-listed : (c : Else-need-eq0) → let a = c.args in listed a.n a.m ≡ true
-is-listed c =
+is_listed : (c : Else-need-eq0) → let a = c.args in listed a.n a.m ≡ true
+is_listed c =
     let a = c.args in
     (sized a.n a.m).1 (needs_some a.n a.m (λ z. c.if-need-eq0.false (c.lay_length-need.ensures ∙ z)))
 
-need-is : (c : Else-need-eq0) → let a = c.args in c.lay_length-need.result ≡ table_length a.n a.m
-need-is c =
+need_is : (c : Else-need-eq0) → let a = c.args in c.lay_length-need.result ≡ table_length a.n a.m
+need_is c =
     let a = c.args in
-    c.lay_length-need.ensures ∙ lay_length_in a.n a.m ((sized a.n a.m).0 (is-listed c))
+    c.lay_length-need.ensures ∙ lay_length_in a.n a.m ((sized a.n a.m).0 (is_listed c))
 
 pub returns-then-need-eq0 : goal.returns-then-need-eq0
 unfolding tests first view
@@ -30,14 +30,18 @@ returns-then-need-eq0 c =
 
 pub returns-then-t-need : goal.returns-then-t-need
 unfolding tests first view
-returns-then-t-need c = rw (is-listed (goal.at.returns-then-t-need c).Else-need-eq0, ne_eqb _ _ (λ z. c.if-t-need.true (z ∙ sym (need-is (goal.at.returns-then-t-need c).Else-need-eq0))))
+returns-then-t-need c =
+    let at = goal.at.returns-then-t-need c in
+    rw (is_listed at.Else-need-eq0, ne_eqb _ _ (λ z. c.if-t-need.true (z ∙ sym (need_is at.Else-need-eq0))))
 
 pub returns-then-not-is_valid : goal.returns-then-not-is_valid
 unfolding tests first view
 returns-then-not-is_valid c =
-    rw (is-listed (goal.at.returns-then-not-is_valid c).Else-need-eq0, eq-eqb _ _ (c.if-t-need.false ∙ need-is (goal.at.returns-then-not-is_valid c).Else-need-eq0), turned c.is_valid.ensures c.if-not-is_valid.true-raw)
+    let at = goal.at.returns-then-not-is_valid c in
+    rw (is_listed at.Else-need-eq0, eq-eqb _ _ (c.if-t-need.false ∙ need_is at.Else-need-eq0), turned c.is_valid.ensures c.if-not-is_valid.true-raw)
 
 pub returns : goal.returns
 unfolding tests first view
 returns c =
-    rw (is-listed (goal.at.returns c).Else-need-eq0, eq-eqb _ _ (c.if-t-need.false ∙ need-is (goal.at.returns c).Else-need-eq0), turned c.is_valid.ensures c.if-not-is_valid.false-raw)
+    let at = goal.at.returns c in
+    rw (is_listed at.Else-need-eq0, eq-eqb _ _ (c.if-t-need.false ∙ need_is at.Else-need-eq0), turned c.is_valid.ensures c.if-not-is_valid.false-raw)

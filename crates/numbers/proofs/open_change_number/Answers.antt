@@ -36,19 +36,20 @@ stations-requires c = sound_head _ c.requires
 pub returns-then-not-is_valid : goal.returns-then-not-is_valid
 unfolding tests first view
 returns-then-not-is_valid c =
-    sym (past_item (goal.at.returns-then-not-is_valid c).Else-items-i ∙ rw (valid_test _ c.stations.ensures c.is_valid.ensures c.if-not-is_valid.true-raw))
+    let at = goal.at.returns-then-not-is_valid c in
+    sym (past_item at.Else-items-i ∙ rw (valid_test _ c.stations.ensures c.is_valid.ensures c.if-not-is_valid.true-raw))
 
 pub kind-requires : goal.kind-requires
 kind-requires c = sound_head _ c.requires
 
 pub returns-then-kind-ne-NO_ROUND : goal.returns-then-kind-ne-NO_ROUND
 unfolding tests first view
-returns-then-kind-ne-NO_ROUND c = 
+returns-then-kind-ne-NO_ROUND c =
     let at = goal.at.returns-then-kind-ne-NO_ROUND c in
     sym (past_item at.Else-items-i ∙ past_target at.Else-not-is_valid ∙ rw (is_open c.kind.ensures c.if-kind-ne-NO_ROUND.true))
 
 pub returns : goal.returns
 unfolding tests first view
-returns c = 
+returns c =
     let at = goal.at.returns c in
     sym (past_item at.Else-items-i ∙ past_target at.Else-not-is_valid ∙ rw (is_idle_lem c.kind.ensures c.if-kind-ne-NO_ROUND.false))

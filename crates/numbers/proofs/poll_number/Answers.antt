@@ -45,19 +45,20 @@ off_set-requires c = sound_head _ c.requires
 pub returns-then-is_member : goal.returns-then-is_member
 unfolding tests first view
 returns-then-is_member c =
-    sym (past_kind (goal.at.returns-then-is_member c).Else-kind-eq-NO_ROUND ∙ rw (member_test _ c.off_set.ensures c.is_member.ensures c.if-is_member.true))
+    let at = goal.at.returns-then-is_member c in
+    sym (past_kind at.Else-kind-eq-NO_ROUND ∙ rw (member_test _ c.off_set.ensures c.is_member.ensures c.if-is_member.true))
 
 pub has_puts-requires : goal.has_puts-requires
 has_puts-requires c = sound_head _ c.requires
 
 pub returns-then-has_puts : goal.returns-then-has_puts
 unfolding tests first
-returns-then-has_puts c = 
+returns-then-has_puts c =
     let at = goal.at.returns-then-has_puts c in
     sym (past_kind at.Else-kind-eq-NO_ROUND ∙ past_off at.Else-is_member ∙ rw (sym c.has_puts.ensures ∙ c.if-has_puts.true))
 
 pub returns : goal.returns
 unfolding tests first
-returns c = 
+returns c =
     let at = goal.at.returns c in
     sym (past_kind at.Else-kind-eq-NO_ROUND ∙ past_off at.Else-is_member ∙ rw (sym c.has_puts.ensures ∙ c.if-has_puts.false))

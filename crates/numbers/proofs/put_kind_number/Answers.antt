@@ -76,4 +76,6 @@ returns-else-is_last-2 c =
 
 pub returns-else-sort-eq-CONFIGURATION-2 : goal.returns-else-sort-eq-CONFIGURATION-2
 unfolding tests first view
-returns-else-sort-eq-CONFIGURATION-2 c = rw (changes (goal.at.returns-else-sort-eq-CONFIGURATION-2 c).Else-k-eq-WRITE, ne_eqb _ _ c.if-sort-eq-CONFIGURATION-2.false)
+returns-else-sort-eq-CONFIGURATION-2 c =
+    let at = goal.at.returns-else-sort-eq-CONFIGURATION-2 c in
+    rw (changes at.Else-k-eq-WRITE, ne_eqb _ _ c.if-sort-eq-CONFIGURATION-2.false)

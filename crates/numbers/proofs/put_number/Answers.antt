@@ -48,7 +48,9 @@ kind-requires c = sound_head _ c.requires
 
 pub returns-then-kind-eq-NO_ROUND : goal.returns-then-kind-eq-NO_ROUND
 unfolding tests first view
-returns-then-kind-eq-NO_ROUND c = sym (past_sort (goal.at.returns-then-kind-eq-NO_ROUND c).Else-not-is_either ∙ rw (is_idle_lem c.kind.ensures c.if-kind-eq-NO_ROUND.true))
+returns-then-kind-eq-NO_ROUND c =
+    let at = goal.at.returns-then-kind-eq-NO_ROUND c in
+    sym (past_sort at.Else-not-is_either ∙ rw (is_idle_lem c.kind.ensures c.if-kind-eq-NO_ROUND.true))
 
 pub off_set-requires : goal.off_set-requires
 off_set-requires c = sound_head _ c.requires
@@ -56,8 +58,9 @@ off_set-requires c = sound_head _ c.requires
 pub returns-then-is_member : goal.returns-then-is_member
 unfolding tests first view
 returns-then-is_member c =
+    let at = goal.at.returns-then-is_member c in
     let tested = member_test _ c.off_set.ensures c.is_member.ensures c.if-is_member.true in
-    sym (past_sort (goal.at.returns-then-is_member c).Else-not-is_either ∙ past_kind (goal.at.returns-then-is_member c).Else-kind-eq-NO_ROUND ∙ rw tested)
+    sym (past_sort at.Else-not-is_either ∙ past_kind at.Else-kind-eq-NO_ROUND ∙ rw tested)
 
 pub round_found-found-requires : goal.round_found-found-requires
 round_found-found-requires c = c.requires
@@ -66,7 +69,8 @@ pub returns-in_default : goal.returns-in_default
 unfolding tests first
 returns-in_default c =
     let at = goal.at.returns-in_default c in
-    sym (past_sort at.Else-not-is_either ∙ past_kind at.Else-kind-eq-NO_ROUND ∙ past_off at.Else-is_member ∙ rw (nobody_hears _ _ _ (nobody_found c.round_found-found.ensures c.in_default.is)))
+    sym (past_sort at.Else-not-is_either ∙ past_kind at.Else-kind-eq-NO_ROUND ∙ past_off at.Else-is_member
+    ∙ rw (nobody_hears _ _ _ (nobody_found c.round_found-found.ensures c.in_default.is)))
 
 pub round_is_heard-requires : goal.round_is_heard-requires
 round_is_heard-requires c = (c.requires, has_found c.round_found-found.ensures c.in-Copies.is)
@@ -75,17 +79,17 @@ pub returns-then-not-round_is_heard : goal.returns-then-not-round_is_heard
 unfolding tests first
 returns-then-not-round_is_heard c =
     let at = goal.at.returns-then-not-round_is_heard c in
-    sym (past_sort at.Else-not-is_either ∙ past_kind at.Else-kind-eq-NO_ROUND ∙ past_off at.Else-is_member ∙ rw (sym c.round_is_heard.ensures ∙ not-true _ c.if-not-round_is_heard.true-raw))
+    sym (past_sort at.Else-not-is_either ∙ past_kind at.Else-kind-eq-NO_ROUND ∙ past_off at.Else-is_member
+    ∙ rw (sym c.round_is_heard.ensures ∙ not-true _ c.if-not-round_is_heard.true-raw))
 
 pub put_kind_number-requires : goal.put_kind_number-requires
 unfolding view
-put_kind_number-requires c =
-    (
-      c.requires,
-      (a_round _).0 (is_open c.kind.ensures c.if-kind-eq-NO_ROUND.false),
-      turned c.is_either.ensures c.if-not-is_either.false-raw,
-      has_found c.round_found-found.ensures c.in-Copies.is,
-    )
+put_kind_number-requires c = (
+  c.requires,
+  (a_round _).0 (is_open c.kind.ensures c.if-kind-eq-NO_ROUND.false),
+  turned c.is_either.ensures c.if-not-is_either.false-raw,
+  has_found c.round_found-found.ensures c.in-Copies.is,
+)
 
 pub returns : goal.returns
 unfolding tests first

@@ -28,13 +28,16 @@ pub form_of-form-requires : goal.form_of-form-requires
 form_of-form-requires c = (_, lay_valid _ _ _ _ _ (allowed (goal.at.form_of-form-requires c).Else-number-ne-DONE))
 
 pub lay_bytes-requires : goal.lay_bytes-requires
-lay_bytes-requires c = let room = lay_room _ _ _ _ _ (allowed (goal.at.lay_bytes-requires c).Else-number-ne-DONE) in (room.0, room.1, room.2, room.3, room.4, search rules)
+lay_bytes-requires c =
+    let at = goal.at.lay_bytes-requires c in
+    let room = lay_room _ _ _ _ _ (allowed at.Else-number-ne-DONE) in (room.0, room.1, room.2, room.3, room.4, search rules)
 
 pub returns : goal.returns
 unfolding done figures_of
 returns c =
+    let at = goal.at.returns c in
     let value = c.args.value in
-    let valid = lay_valid _ _ _ _ _ (allowed (goal.at.returns c).Else-number-ne-DONE) in
+    let valid = lay_valid _ _ _ _ _ (allowed at.Else-number-ne-DONE) in
     let both = by_plain _ (lay _ _ value _) (c.lay_number-number.ensures ∙ lay_number_is _ _ _ value _) refl c.if-number-ne-DONE.false c.plain-2.ensures
     (c.lay_bytes.ensures ∙ rw (c.form_of-form.ensures, form_any _ _ valid)) in
     record { value = both.0; table_after = both.1 }

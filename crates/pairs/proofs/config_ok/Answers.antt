@@ -22,9 +22,13 @@ pub returns-then-not-pairs_ok : goal.returns-then-not-pairs_ok
 returns-then-not-pairs_ok c = invalid _ _ (λ v. clash (valid_is_paired _ _ v) (sym c.pairs_ok.ensures ∙ not-true _ c.if-not-pairs_ok.true-raw))
 
 pub returns-then-not-four_within : goal.returns-then-not-four_within
-returns-then-not-four_within c = invalid _ _ (λ v. clash (valid_is_inside _ _ v) (sym (within_all (goal.at.returns-then-not-four_within c).After-four_within-4) ∙ not-true _ c.if-not-four_within.true-raw))
+returns-then-not-four_within c =
+    let at = goal.at.returns-then-not-four_within c in
+    invalid _ _ (λ v. clash (valid_is_inside _ _ v) (sym (within_all at.After-four_within-4) ∙ not-true _ c.if-not-four_within.true-raw))
 
 pub returns : goal.returns
-returns c = let inside-it = sym (within_all (goal.at.returns c).After-four_within-4) ∙ not-false _ c.if-not-four_within.false-raw in
+returns c =
+    let at = goal.at.returns c in
+    let inside_it = sym (within_all at.After-four_within-4) ∙ not-false _ c.if-not-four_within.false-raw in
     rw (c.share_station.ensures, c.load_set-2.ensures, c.load_set.ensures)
-    (paired_is_valid c.args.n c.args.config.now c.requires.0 c.requires.1 c.requires.2 (paired (goal.at.returns c).Else-not-pairs_ok) inside-it)
+    (paired_is_valid c.args.n c.args.config.now c.requires.0 c.requires.1 c.requires.2 (paired at.Else-not-pairs_ok) inside_it)

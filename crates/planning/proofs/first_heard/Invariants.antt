@@ -8,7 +8,9 @@ use Rattle.planning.proofs.first_heard.Given as goal
 
 abbrev pub invariant-loop-rest : goal.invariant-loop-rest
 invariant-loop-rest l =
-    Position l.on l.polls l.rest l.polled × NoneUpTo (λ set. hears (copies_of l.t l.n l.item) set l.n) l.on l.polls × (as_option l.found ≡ walk (copies_of l.t l.n l.item) l.polled l.n)
+    Position l.on l.polls l.rest l.polled
+    × NoneUpTo (λ set. hears (copies_of l.t l.n l.item) set l.n) l.on l.polls
+    × (as_option l.found ≡ walk (copies_of l.t l.n l.item) l.polled l.n)
 
 abbrev pub decreases-loop-rest : goal.decreases-loop-rest
 decreases-loop-rest l = l.rest

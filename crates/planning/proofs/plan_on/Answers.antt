@@ -42,7 +42,8 @@ first_heard-requires c =
 pub returns-in_default : goal.returns-in_default
 returns-in_default c =
     let at = goal.at.returns-in_default c in
-    (refused _ c.requires (plan _) refl (unheard _ c.requires _ (there at.After-on_bus-on) c.stations-n.ensures c.on_bus-on.ensures c.in_default.ensures) (omega arith)
+    let number = unheard _ c.requires _ (there at.After-on_bus-on) c.stations-n.ensures c.on_bus-on.ensures c.in_default.ensures in
+    (refused _ c.requires (plan _) refl number (omega arith)
     c.plain-in_default.ensures).0
 
 pub config_found-requires : goal.config_found-requires

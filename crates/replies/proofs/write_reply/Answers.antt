@@ -16,10 +16,14 @@ made : (c : After-bytes-1) → length c.reply_bytes-bytes.result ≡ reply_size
 made c = rw c.reply_bytes-bytes.ensures (reply_bytes_length _ _)
 
 pub slice_bounds-write_hex-end : goal.slice_bounds-write_hex-end
-slice_bounds-write_hex-end c = let long = made (goal.at.slice_bounds-write_hex-end c).After-bytes-1 in sym (length-take-le 2 c.reply_bytes-bytes.result (omega arith))
+slice_bounds-write_hex-end c =
+    let at = goal.at.slice_bounds-write_hex-end c in
+    let long = made at.After-bytes-1 in sym (length-take-le 2 c.reply_bytes-bytes.result (omega arith))
 
 pub write_hex-requires : goal.write_hex-requires
-write_hex-requires c = let long = made (goal.at.write_hex-requires c).After-bytes-1 in rw (length-take-le 2 c.reply_bytes-bytes.result (omega arith)) (omega arith)
+write_hex-requires c =
+    let at = goal.at.write_hex-requires c in
+    let long = made at.After-bytes-1 in rw (length-take-le 2 c.reply_bytes-bytes.result (omega arith)) (omega arith)
 
 pub shape_of-out : goal.shape_of-out
 shape_of-out c = rw length-set (c.write_hex-2.auto.1.0 ∙ c.write_hex.auto.1.0)

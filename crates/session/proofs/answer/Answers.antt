@@ -28,22 +28,22 @@ abbrev starting : After-write_reply → Start
 starting w = (reading w)
 
 -- the code and the bytes stand for the line's call
-abbrev call-of : After-write_reply → Option Call
-call-of w = call_at (reading w).read_frame-code.result (reading w).read_frame-code.new.1.1.0
+abbrev call_of : After-write_reply → Option Call
+call_of w = call_at (reading w).read_frame-code.result (reading w).read_frame-code.new.1.1.0
 
-call-is : (w : After-write_reply) → call-of w ≡ call_of (starting w).args.line.now
-call-is w =
+call_is : (w : After-write_reply) → call_of w ≡ call_of (starting w).args.line.now
+call_is w =
     let f = (reading w).read_frame-code in
     ap (λ code. call_at code f.last.1.1.0) f.ensures.0 ∙ frame_call (starting w).args.line.now f.last.1.1.0 f.ensures.1
 
 abbrev old_of : After-write_reply → List ℕ
 old_of w = (starting w).args.table.now
 
-abbrev used-of : After-write_reply → ℕ
-used-of w = (starting w).args.used
+abbrev used_of : After-write_reply → ℕ
+used_of w = (starting w).args.used
 
 facts : (w : After-write_reply)
-    → Performed (old_of w) (used-of w) (lending w).lent_length-lend.result (call-of w) (performed w).perform-r.result (performed w).perform-r.new.0
+    → Performed (old_of w) (used_of w) (lending w).lent_length-lend.result (call_of w) (performed w).perform-r.result (performed w).perform-r.new.0
 facts w =
     let p = (performed w).perform-r in
     record {
@@ -58,26 +58,28 @@ facts w =
 
 shown : (w : After-write_reply)
     → w.write_reply.new.1.1.0
-    ≡ over (starting w).args.out.now (starting w).args.at (printed (take (used-of w) (old_of w)) (starting w).args.line.now)
+    ≡ over (starting w).args.out.now (starting w).args.at (printed (take (used_of w) (old_of w)) (starting w).args.line.now)
 shown w =
-    shows_reply (take (used-of w) (old_of w)) (starting w).args.line.now (starting w).args.out.now _ (starting w).args.at _ _ _ (call-is w)
-    (reading w).call_byte-call.ensures (its_reply _ _ _ _ _ (call-of w) (facts w)) w.write_reply.ensures
+    shows_reply (take (used_of w) (old_of w)) (starting w).args.line.now (starting w).args.out.now _ (starting w).args.at _ _ _ (call_is w)
+    (reading w).call_byte-call.ensures (its_reply _ _ _ _ _ (call_of w) (facts w)) w.write_reply.ensures
 
 pub slice_bounds-perform-end-2 : goal.slice_bounds-perform-end-2
 slice_bounds-perform-end-2 c = simp length-take (omega arith)
 
 pub returns-then-r-eq0 : goal.returns-then-r-eq0
 unfolding table_after
-returns-then-r-eq0 c = 
+returns-then-r-eq0 c =
+    let at = goal.at.returns-then-r-eq0 c in
     record {
-      in_use = rw (← call-is (goal.at.returns-then-r-eq0 c).After-write_reply) (is_done _ _ _ _ _ (call-of (goal.at.returns-then-r-eq0 c).After-write_reply) (facts (goal.at.returns-then-r-eq0 c).After-write_reply) c.if-r-eq0.true);
-      out_after = shown (goal.at.returns-then-r-eq0 c).After-write_reply;
+      in_use = rw (← call_is at.After-write_reply) (is_done _ _ _ _ _ (call_of at.After-write_reply) (facts at.After-write_reply) c.if-r-eq0.true);
+      out_after = shown at.After-write_reply;
     }
 
 pub returns : goal.returns
 unfolding table_after
-returns c = 
+returns c =
+    let at = goal.at.returns c in
     record {
-      in_use = rw (← call-is (goal.at.returns c).After-write_reply) (is_refused _ _ _ _ _ (call-of (goal.at.returns c).After-write_reply) (facts (goal.at.returns c).After-write_reply) c.if-r-eq0.false);
-      out_after = shown (goal.at.returns c).After-write_reply;
+      in_use = rw (← call_is at.After-write_reply) (is_refused _ _ _ _ _ (call_of at.After-write_reply) (facts at.After-write_reply) c.if-r-eq0.false);
+      out_after = shown at.After-write_reply;
     }

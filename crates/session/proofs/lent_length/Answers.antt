@@ -4,7 +4,7 @@ use Rattle.session.proofs.Answering.{in_use, needed}
 use Rattle.session.proofs.lent_length.Goals as goal
 
 pub returns-then-code-ne-LAY : goal.returns-then-code-ne-LAY
-returns-then-code-ne-LAY c = 
+returns-then-code-ne-LAY c =
     record {
       value = sym (in_use c.args.used c.args.arguments.now c.args.code c.if-code-ne-LAY.true);
       upper_bound = c.requires.1;

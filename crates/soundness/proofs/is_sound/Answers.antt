@@ -10,14 +10,14 @@ use Rattle.soundness.proofs.is_sound.Goals as goal
 use Rattle.soundness.proofs.is_sound.Goals.{Else-not-head_ok, Else-not-size_ok}
 
 -- past the first two tests
-size-sound : (c : Else-not-size_ok) → size_sound c.args.t.now ≡ true
-size-sound c = sym c.size_ok.ensures ∙ not-false _ c.if-not-size_ok.false-raw
+size_passed : (c : Else-not-size_ok) → size_sound c.args.t.now ≡ true
+size_passed c = sym c.size_ok.ensures ∙ not-false _ c.if-not-size_ok.false-raw
 
 size : (c : Else-not-size_ok) → Size c.args.t.now
-size c = size_facts _ (size-sound c)
+size c = size_facts _ (size_passed c)
 
-head-sound : (c : Else-not-head_ok) → head_sound c.args.t.now ≡ true
-head-sound c = sym c.head_ok.ensures ∙ not-false _ c.if-not-head_ok.false-raw
+head_passed : (c : Else-not-head_ok) → head_sound c.args.t.now ≡ true
+head_passed c = sym c.head_ok.ensures ∙ not-false _ c.if-not-head_ok.false-raw
 
 pub returns-then-not-size_ok : goal.returns-then-not-size_ok
 returns-then-not-size_ok c = let t = c.args.t.now in
@@ -31,22 +31,24 @@ head_ok-requires c = let h = (size (goal.at.head_ok-requires c).Else-not-size_ok
 pub returns-then-not-head_ok : goal.returns-then-not-head_ok
 returns-then-not-head_ok c = let t = c.args.t.now in
     let e : head_sound t ≡ false = sym c.head_ok.ensures ∙ not-true _ c.if-not-head_ok.true-raw in
-    rw (sound_parts t, size-sound (goal.at.returns-then-not-head_ok c).Else-not-size_ok, e)
+    rw (sound_parts t, size_passed (goal.at.returns-then-not-head_ok c).Else-not-size_ok, e)
 
 pub kind-requires : goal.kind-requires
 unfolding table_length
 kind-requires c = let h = (size (goal.at.kind-requires c).Else-not-size_ok).long in omega arith
 
 pub rest_ok-requires : goal.rest_ok-requires
-rest_ok-requires c = (size-sound (goal.at.rest_ok-requires c).Else-not-size_ok, search rules)
+rest_ok-requires c = (size_passed (goal.at.rest_ok-requires c).Else-not-size_ok, search rules)
 
 pub returns-then-kind-eq-CHANGE : goal.returns-then-kind-eq-CHANGE
 returns-then-kind-eq-CHANGE c =
-    c.rest_ok.ensures ∙ sound_change _ (size-sound (goal.at.returns-then-kind-eq-CHANGE c).Else-not-size_ok) (head-sound (goal.at.returns-then-kind-eq-CHANGE c).Else-not-head_ok) (sym c.kind.ensures ∙ c.if-kind-eq-CHANGE.true)
+    let at = goal.at.returns-then-kind-eq-CHANGE c in
+    c.rest_ok.ensures ∙ sound_change _ (size_passed at.Else-not-size_ok) (head_passed at.Else-not-head_ok) (sym c.kind.ensures ∙ c.if-kind-eq-CHANGE.true)
 
 pub rest_ok-requires-2 : goal.rest_ok-requires-2
-rest_ok-requires-2 c = (size-sound (goal.at.rest_ok-requires-2 c).Else-not-size_ok, search rules)
+rest_ok-requires-2 c = (size_passed (goal.at.rest_ok-requires-2 c).Else-not-size_ok, search rules)
 
 pub returns : goal.returns
 returns c =
-    c.rest_ok-2.ensures ∙ sound_other _ (size-sound (goal.at.returns c).Else-not-size_ok) (head-sound (goal.at.returns c).Else-not-head_ok) (λ e. c.if-kind-eq-CHANGE.false (c.kind.ensures ∙ e))
+    let at = goal.at.returns c in
+    c.rest_ok-2.ensures ∙ sound_other _ (size_passed at.Else-not-size_ok) (head_passed at.Else-not-head_ok) (λ e. c.if-kind-eq-CHANGE.false (c.kind.ensures ∙ e))

@@ -38,16 +38,21 @@ unfolding table_length
 items-requires c = let h = (size (goal.at.items-requires c).After-shared_slice_known-1).long in omega arith
 
 pub overflow_mul-count : goal.overflow_mul-count
-overflow_mul-count c = let h = size (goal.at.overflow_mul-count c).After-shared_slice_known-1 in let e = copies (goal.at.overflow_mul-count c).After-items in omega arith
+overflow_mul-count c =
+    let at = goal.at.overflow_mul-count c in
+    let h = size at.After-shared_slice_known-1 in let e = copies at.After-items in omega arith
 
 pub overflow_add-count : goal.overflow_add-count
-overflow_add-count c = let h = size (goal.at.overflow_add-count c).After-shared_slice_known-1 in let e = copies (goal.at.overflow_add-count c).After-items in omega arith
+overflow_add-count c =
+    let at = goal.at.overflow_add-count c in
+    let h = size at.After-shared_slice_known-1 in let e = copies at.After-items in omega arith
 
 pub all_valid-requires : goal.all_valid-requires
 unfolding table_length
 all_valid-requires c =
-    let h = size (goal.at.all_valid-requires c).After-shared_slice_known-1 in
-    let e = copies (goal.at.all_valid-requires c).After-items in
+    let at = goal.at.all_valid-requires c in
+    let h = size at.After-shared_slice_known-1 in
+    let e = copies at.After-items in
     let n = c.stations-n.ensures in
     (omega arith, omega arith, omega arith, omega arith, λ k l. omega arith)
 

@@ -42,7 +42,8 @@ tested c = rw (add-sub_cancel_left) at c.config_ok.ensures
 
 pub returns-then-not-config_ok : goal.returns-then-not-config_ok
 returns-then-not-config_ok c =
-    one_fails _ _ _ _ _ c.loop-k.k c.loop-k-test.true (sym (tested (goal.at.returns-then-not-config_ok c).After-config_ok) ∙ not-true _ c.if-not-config_ok.true-raw)
+    let at = goal.at.returns-then-not-config_ok c in
+    one_fails _ _ _ _ _ c.loop-k.k c.loop-k-test.true (sym (tested at.After-config_ok) ∙ not-true _ c.if-not-config_ok.true-raw)
 
 pub past_same-k-requires : goal.past_same-k-requires
 past_same-k-requires c =
@@ -54,9 +55,10 @@ loop-k-smaller c = let l = c.loop-k-test.true in let g = c.past_same-k.ensures i
 
 pub loop-k-preserved : goal.loop-k-preserved
 loop-k-preserved c =
+    let at = goal.at.loop-k-preserved c in
     let turn = c.loop-k in
     let next = c.past_same-k.ensures in
-    (next.1, next.2 _ (one_more _ _ _ _ turn.k turn.invariant.1 (sym (tested (goal.at.loop-k-preserved c).After-config_ok) ∙ not-false _ c.if-not-config_ok.false-raw)))
+    (next.1, next.2 _ (one_more _ _ _ _ turn.k turn.invariant.1 (sym (tested at.After-config_ok) ∙ not-false _ c.if-not-config_ok.false-raw)))
 
 pub returns : goal.returns
 returns c =

@@ -32,20 +32,24 @@ overflow_add-at c = let h = room (goal.at.overflow_add-at c).In-loop-k (c.loop-k
 
 pub same_block-requires : goal.same_block-requires
 same_block-requires c =
+    let at = goal.at.same_block-requires c in
     let a = c.args in
-    let k = c.loop-k.k in
-    (room (goal.at.same_block-requires c).In-loop-k (k - 1) (omega arith), λ j l. rw (stride_on 0 a.bytes.now a.at a.stride k j (started (goal.at.same_block-requires c).In-loop-k)) (room (goal.at.same_block-requires c).In-loop-k (k + j) (omega arith)))
+    let k = c.loop-k.k in (
+      room at.In-loop-k (k - 1) (omega arith),
+      λ j l. rw (stride_on 0 a.bytes.now a.at a.stride k j (started at.In-loop-k)) (room at.In-loop-k (k + j) (omega arith)),
+    )
 
 pub returns-then-not-same_block : goal.returns-then-not-same_block
 returns-then-not-same_block c = c.loop-k.invariant
 
 pub loop-k-preserved : goal.loop-k-preserved
 loop-k-preserved c =
+    let at = goal.at.loop-k-preserved c in
     let a = c.args in
     let same = sym c.same_block.ensures ∙ not-false _ c.if-not-same_block.false-raw in
     let k = c.loop-k.k in
     let valid = c.loop-k.invariant.2 in
-    (search rules, search rules, λ n v. eight_more n a.bytes.now a.at a.stride k (started (goal.at.loop-k-preserved c).In-loop-k) (room (goal.at.loop-k-preserved c).In-loop-k) same (valid n v))
+    (search rules, search rules, λ n v. eight_more n a.bytes.now a.at a.stride k (started at.In-loop-k) (room at.In-loop-k) same (valid n v))
 
 pub returns : goal.returns
 returns c = c.loop-k.invariant

@@ -13,15 +13,14 @@ use Rattle.writes.proofs.put_each.Goals as goal
 use Rattle.writes.proofs.put_each.Goals.{After-address-at}
 
 pub loop-rest-init : goal.loop-rest-init
-loop-rest-init c =
-    (
-      refl,
-      refl,
-      record {
-        comes_to = rw c.united-rest.ensures (puts_along c.args.t.now c.args.n (as_round c.args.round) _ c.args.n);
-        small = search rules;
-      },
-    )
+loop-rest-init c = (
+  refl,
+  refl,
+  record {
+    comes_to = rw c.united-rest.ensures (puts_along c.args.t.now c.args.n (as_round c.args.round) _ c.args.n);
+    small = search rules;
+  },
+)
 
 pub shape_of-t-then-n-s : goal.shape_of-t-then-n-s
 shape_of-t-then-n-s c = c.loop-rest.invariant.1
