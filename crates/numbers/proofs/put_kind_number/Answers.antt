@@ -1,3 +1,4 @@
+use borrow.Author.Rules.{rules}
 use mathlib.Core.Path.{◌≡◌, sym}
 use mathlib.Core.List.{List}
 use mathlib.Core.Bool.{Bool, true, false, cond}
@@ -36,7 +37,7 @@ data_put c e =
 changes : (c : Else-k-eq-WRITE) → (view c.args.t.now).round.kind ≡ change
 unfolding view
 changes c =
-    is_change c.kind-k.ensures c.requires.1 c.if-k-eq-READ.false c.if-k-eq-WRITE.false
+    is_change c.kind-k.ensures c.requires.1 (search rules) c.if-k-eq-WRITE.false
 
 -- in a change, a configuration put: by the test of the generation found
 config_put : (c : After-is_last-then-sort-eq-CONFIGURATION-2) {r : Bool} → (view c.args.t.now).round.kind ≡ change
