@@ -22,7 +22,7 @@ pub struct AfterRead {
     pub whole: bool,
 }
 
-// Writes all of the text, and sees it through to where it goes.
+// Writes all of the text and flushes the writer.
 pub fn send<W: Write>(to: &mut W, text: &[u8]) -> io::Result<()>
     ensures { OnOk result (Appends (W.contents to.old) (W.contents to.new) text.now) }
 {
