@@ -1,6 +1,6 @@
 -- Known bytes, moved one piece after the other.
-use Rattle.std.proofs.Common.{◌≡◌, true, false, Option, Some, None, Result, Ok, Err, OnOk, is_err, IfSome, List, [], ◌++◌, ℕ, ◌+◌, ◌-◌, ◌≤◌, length, take}
-use Rattle.std.proofs.Common.{refl, sym, ap, ◌∙◌, append_assoc, append-nil, arith}
+use Rattle.std.proofs.Common.{◌≡◌, true, false, Option, Some, None, Result, Ok, Err, OnOk, is_err, IfSome}
+use Rattle.std.proofs.Common.{List, [], ◌++◌, ℕ, ◌+◌, ◌-◌, ◌≤◌, length, take, refl, sym, ap, ◌∙◌, append_assoc, append-nil, arith}
 use lib.Seq.{take-add}
 use Rattle.std.specs.Io.KnownBytes.{Appends, Consumes, IsAtEnd}
 use Rattle.runs.specs.Pieces.{InHand, start, after_piece, printed_by, printed_last}
