@@ -39,7 +39,6 @@
 #![tactic(auto)]
 
 mod call;
-mod form;
 mod kept;
 mod lent;
 mod perform;
@@ -47,6 +46,7 @@ mod reading;
 mod rows;
 mod script;
 mod show;
+mod writer;
 
 ghost use Rattle.std.specs.Prelude.{◌≤◌, IfOk, length};
 

@@ -1,11 +1,11 @@
 // What the words of the script do.
 use crate::call::{UNKNOWN, call};
-use crate::form::form;
 use crate::kept::{keep, same};
 use crate::lent::{Lent, config, replace, store};
 use crate::reading::{Call, code_of};
 use crate::rows::{damaged, eleven};
 use crate::show::{reply, truth};
+use crate::writer::form;
 use std::io;
 use std::io::Write;
 

@@ -1,7 +1,9 @@
 // The frame runner: reads frames from standard input, one a line, and prints a reply line for each.
 #![tactic(auto)]
 
-ghost use Rattle.std.specs.Prelude.{◌≡◌, ◌≤◌, length, take};
+ghost use Rattle.std.specs.Prelude.{◌≡◌, ◌≤◌, ◌<◌, true, IfSome, length, take};
+ghost use Rattle.std.specs.Io.KnownBytes.{Appends};
+ghost use Rattle.runs.specs.Run.{run};
 ghost use Rattle.runs.specs.Pieces.{printed_last};
 ghost use Rattle.reading.specs.Between.{RightSizes, Ready};
 
@@ -27,7 +29,8 @@ fn answer_last(table: &mut [u8], line: &[u8], out: &mut [u8], s: AfterRead) -> u
     last.out
 }
 
-// Answers the whole input, and at its end a last line without a line end; a failed read or write leaves no such line.
+// Answers the whole input, and at its end a last line without a line end; a failed read or write leaves no such line. Returns whether all
+// was read, answered and written: then, where the reader's bytes and the writer's are known, a whole run was written.
 fn answer_input<R: Read, W: Write>(
     from: &mut R,
     to: &mut W,
@@ -35,12 +38,17 @@ fn answer_input<R: Read, W: Write>(
     table: &mut [u8],
     line: &mut [u8],
     out: &mut [u8],
-)
+) -> bool
     requires { RightSizes table.old line.old out.old }
+    ensures { result ≡ true → 0 < length input.old → IfSome (R.remaining from.old)
+        (λ all. Appends (W.contents to.old) (W.contents to.new) (run all)) }
 {
     let s = answer_reads(from, to, input, table, line, out);
     let end = answer_last(table, line, out, s);
-    let _ = send(to, &out[..end]);
+    if send(to, &out[..end]).is_err() {
+        return false;
+    }
+    s.whole && s.read == 0
 }
 
 fn main(rt: HostRuntime) {
@@ -50,7 +58,7 @@ fn main(rt: HostRuntime) {
     let mut table = [0u8; LARGEST];
     let mut line = [0u8; ENOUGH];
     let mut out = [0u8; 65536];
-    answer_input(
+    let _whole = answer_input(
         &mut from, &mut to, &mut input, &mut table, &mut line, &mut out,
     );
 }

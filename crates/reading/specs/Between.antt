@@ -3,9 +3,10 @@
 -- nothing fails; what the program reads and prints is tested.
 -- `AfterRead` has the lengths in use of the table (`used`) and of the line so far (`len`), how many bytes the last read gave (`read`), and whether all
 -- that was read was answered (`whole`).
-use Rattle.std.specs.Prelude.{◌≡◌, true, false, List, ◌++◌, ℕ, ◌≤◌, length, take}
+use Rattle.std.specs.Prelude.{◌≡◌, true, false, Option, List, ◌++◌, ℕ, ◌≤◌, ◌<◌, length, take}
+use Rattle.std.specs.Io.KnownBytes.{Appends, Consumes, IsAtEnd}
 use Rattle.replies.specs.ReplyLine.{reply_line_size}
-use Rattle.runs.specs.Pieces.{enough, start, after_piece}
+use Rattle.runs.specs.Pieces.{InHand, enough, start, after_piece, printed_by}
 use Rattle.layout.specs.Layout.{largest}
 use Rattle.feeding.specs.Buffers.{in_hand, Fits}
 use Rattle.feeding.specs.declared.Fed.{Fed}
@@ -39,3 +40,18 @@ pub record AfterInput (input table line : List ℕ) (s : AfterRead) : Type 0 whe
 pub record Stopped (input table line : List ℕ) (s : AfterRead) : Type 0 where
   pub reached : s.whole ≡ true → AfterInput input table line s
   pub or_dropped : s.whole ≡ false → s.len ≡ 0
+
+-- ---- where the bytes that a reader has left are known, and those that a writer holds; of the system's streams they are not
+-- One read from a to b: its n bytes in the input buffer were taken, and what the definition prints for them, from h on, went to the
+-- writer, from p to q. It gave none only at the end.
+pub record Moved (a b p q : Option (List ℕ)) (h : InHand) (input : List ℕ) (n : ℕ) : Type 0 where
+  pub taken : Consumes a b (take n input)
+  pub written : Appends p q (printed_by h (take n input))
+  pub ended : n ≡ 0 → 0 < length input → IsAtEnd b
+
+-- All reads, from the first on: what they took is what the definition has printed for and has in hand.
+pub record RunSoFar (a b p q : Option (List ℕ)) (h : InHand) : Type 0 where
+  pub all : List ℕ
+  pub taken : Consumes a b all
+  pub written : Appends p q (printed_by start all)
+  pub state : h ≡ after_piece start all

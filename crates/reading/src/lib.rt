@@ -2,8 +2,10 @@
 #![tactic(auto)]
 
 ghost use Rattle.std.specs.Prelude.{◌≡◌, true, ◌<◌, OnOk, length, take};
-ghost use Rattle.std.specs.Io.KnownBytes.{Appends};
-ghost use Rattle.reading.specs.Between.{RightSizes, Ready, AnswersPiece, Stopped};
+ghost use Rattle.std.specs.Io.KnownBytes.{Appends, IsAtEnd};
+ghost use Rattle.runs.specs.Pieces.{printed_by};
+ghost use Rattle.feeding.specs.Buffers.{in_hand};
+ghost use Rattle.reading.specs.Between.{RightSizes, Ready, AnswersPiece, Stopped, Moved, RunSoFar};
 
 use feeding::{Fed, feed};
 use std::io;
@@ -22,7 +24,7 @@ pub struct AfterRead {
     pub whole: bool,
 }
 
-// Writes all of the text, and sees it through to where it goes.
+// Writes all of the text and flushes the writer.
 pub fn send<W: Write>(to: &mut W, text: &[u8]) -> io::Result<()>
     ensures { OnOk result (Appends (W.contents to.old) (W.contents to.new) text.now) }
 {
@@ -42,6 +44,8 @@ fn answer_piece<W: Write>(
 ) -> AfterRead
     requires { Ready table.old line.old out.old s }
     ensures answers_piece { AnswersPiece piece.now table.old line.old s table.new line.new result }
+    ensures written { result.whole ≡ true → Appends (W.contents to.old) (W.contents to.new)
+        (printed_by (in_hand table.old s.used line.old s.len) piece.now) }
     ensures ready { Ready table.new line.new out.new result × (result.read ≡ length piece.now) }
 {
     let mut fed = Fed {
@@ -89,6 +93,10 @@ fn answer_read<R: Read, W: Write>(
     requires { Ready table.old line.old out.old s }
     ensures answers_piece { AnswersPiece (take result.read input.new) table.old line.old s
         table.new line.new result }
+    ensures moved { result.whole ≡ true
+        → Moved (R.remaining from.old) (R.remaining from.new)
+        (W.contents to.old) (W.contents to.new) (in_hand table.old s.used line.old s.len)
+        input.new result.read }
     ensures ready { Ready table.new line.new out.new result }
 {
     match from.read(input) {
@@ -127,6 +135,11 @@ pub fn answer_reads<R: Read, W: Write>(
 ) -> AfterRead
     requires { RightSizes table.old line.old out.old }
     ensures stopped { Stopped input.new table.new line.new result }
+    ensures so_far { result.whole ≡ true
+        → RunSoFar (R.remaining from.old) (R.remaining from.new)
+        (W.contents to.old) (W.contents to.new) (in_hand table.new result.used line.new result.len) }
+    ensures ended { result.whole ≡ true → result.read ≡ 0
+        → 0 < length input.new → IsAtEnd (R.remaining from.new) }
     ensures ready { Ready table.new line.new out.new result }
 {
     let mut s = AfterRead {

@@ -1,13 +1,14 @@
-use Rattle.std.proofs.Common.{◌≤◌, length, refl, arith}
+use Rattle.std.proofs.Common.{◌≤◌, length, refl, sym, arith}
 use Rattle.replies.specs.ReplyLine.{reply_line_size}
 use Rattle.reading.specs.Between.{begin}
 use Rattle.reading.proofs.Progress.{forward, up_to_none, up_to_more, fits_at}
+use Rattle.reading.proofs.Known.{sent, written_none, written_more}
 use Rattle.reading.proofs.answer_piece.Goals as goal
 
 pub loop-fed-init : goal.loop-fed-init
 loop-fed-init g c =
     let a = c.args in
-    record { fits = c.requires.0; empty = refl; so_far = up_to_none a.piece.now a.table.now a.line.now (begin a.s) refl }
+    record { fits = c.requires.0; empty = refl; so_far = up_to_none a.piece.now a.table.now a.line.now (begin a.s) refl; written = written_none _ _ }
 
 pub loop-fed-smaller : goal.loop-fed-smaller
 loop-fed-smaller g c =
@@ -19,4 +20,10 @@ loop-fed-smaller g c =
 pub loop-fed-preserved : goal.loop-fed-preserved
 loop-fed-preserved g c =
     let takes = c.feed-r.ensures.takes in
-    record { fits = fits_at _ takes.fits; empty = refl; so_far = up_to_more _ _ _ _ _ _ _ _ _ takes _ c.loop-fed.invariant.so_far }
+    let l = c.loop-fed.invariant in
+    record {
+      fits = fits_at _ takes.fits;
+      empty = refl;
+      so_far = up_to_more _ _ _ _ _ _ _ _ _ takes _ l.so_far;
+      written = written_more _ _ _ _ _ _ _ _ _ _ _ _ _ takes l.empty l.so_far l.written (sent c.send.result c.send.ensures (sym c.if-is_err.ensures.value));
+    }

@@ -2,6 +2,7 @@ use Rattle.std.proofs.Common.{refl, arith}
 use Rattle.feeding.specs.Buffers.{Fits}
 use Rattle.reading.specs.Between.{Stopped}
 use Rattle.reading.proofs.Progress.{reached_none, reached_more, done}
+use Rattle.reading.proofs.Known.{run_none, run_more}
 use Rattle.reading.proofs.answer_reads.Goals as goal
 
 pub loop-reads-init : goal.loop-reads-init
@@ -19,6 +20,8 @@ loop-reads-init g c =
       ready = (fits, c.requires.2);
       stopped = done (reached_none a.input.now a.table.now a.line.now _ refl refl refl) refl;
       whole = λ _. refl;
+      so_far = λ _. run_none _ _ _ refl;
+      ended = λ h. absurd (omega arith);
     }
 
 pub loop-reads-preserved : goal.loop-reads-preserved
@@ -29,4 +32,10 @@ loop-reads-preserved g c =
     let now : Stopped _ _ _ _ =
     record { reached = λ whole. reached_more _ _ _ _ _ _ _ _ before answered whole; or_dropped = answered.or_dropped }
     in
-    record { ready = c.answer_read-s.ensures.ready; stopped = now; whole = c.reads_left-reads.ensures.whole_value }
+    record {
+      ready = c.answer_read-s.ensures.ready;
+      stopped = now;
+      whole = c.reads_left-reads.ensures.whole_value;
+      so_far = λ whole. run_more _ _ _ _ _ _ _ _ _ _ _ _ _ (l.so_far (l.whole c.loop-reads-test.true)) (c.answer_read-s.ensures.moved whole) answered whole;
+      ended = λ _ whole none room. (c.answer_read-s.ensures.moved whole).ended none room;
+    }
