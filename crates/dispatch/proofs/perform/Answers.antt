@@ -210,5 +210,5 @@ returns-in-12 c =
 pub returns-in_default : goal.returns-in_default
 returns-in_default c =
     let a = c.args in
-    let e = other_code a.code a.arguments.now c.in_default.rest in
+    let e = other_code a.code a.arguments.now c.in_default.in_default-own.rest in
     record { value = rw e c.false_frame-in_default.ensures; table_after = rw e }

@@ -1,6 +1,5 @@
 use mathlib.Core.Path.{◌≡◌, sym, ap, ◌∙◌}
-use mathlib.Core.List.{List}
-use Prim.Native.Nat.{ℕ, ◌*◌, ◌≤◌, ◌<◌}
+use Prim.Native.Nat.{◌*◌, ◌≤◌, ◌<◌}
 use native.Mathlib.Omega.{arith}
 use lib.ListN.{drop, length-take, length-drop}
 use borrow.Author.Tests.{not-true, not-false}
@@ -13,27 +12,26 @@ use Rattle.frames.proofs.frame.read_frame.Goals as goal
 use Rattle.frames.proofs.frame.read_frame.Goals.{After-frame_length-n, After-read_bytes, Else-n-eq0}
 
 -- the line, and the length that its call byte's frames have
-abbrev line_of : After-frame_length-n → List ℕ
-line_of p = p.args.line.now
+n_is : (c : After-frame_length-n) → c.frame_length-n.result ≡ frame_length (call_byte c.args.line.now)
+n_is c = c.frame_length-n.ensures ∙ ap frame_length c.requires.0
 
-n_is : (p : After-frame_length-n) → p.frame_length-n.result ≡ frame_length (call_byte (line_of p))
-n_is p = p.frame_length-n.ensures ∙ ap frame_length p.requires.0
+n_le : (c : After-frame_length-n) → c.frame_length-n.result ≤ longest
+n_le c = rw (n_is c) (frame_length_le (call_byte c.args.line.now))
 
-n_le : (p : After-frame_length-n) → p.frame_length-n.result ≤ longest
-n_le p = rw (n_is p) (frame_length_le (call_byte (line_of p)))
+-- there is such a frame
+has : (c : Else-n-eq0) → 0 < c.frame_length-n.result
+has c = omega arith
 
 -- what the bytes behind the call byte showed
-has : (p : Else-n-eq0) → 0 < p.frame_length-n.result
-has p = omega arith
-
-digits_read : (c : After-read_bytes) → c.read_bytes.result ≡ all_digits (drop 2 (line_of c))
-digits_read c =
-    c.read_bytes.ensures.value ∙ ap all_digits (behind (line_of c) _ (has c) (n_is c) c.if-line-n.false)
+digits_read : (c : After-read_bytes) → 0 < c.frame_length-n.result → c.frame_length-n.result ≡ frame_length (call_byte c.args.line.now)
+    → c.read_bytes.result ≡ all_digits (drop 2 c.args.line.now)
+digits_read c some is =
+    c.read_bytes.ensures.value ∙ ap all_digits (behind c.args.line.now _ some is c.if-line-n.false)
 
 pub returns-then-n-eq0 : goal.returns-then-n-eq0
 returns-then-n-eq0 c =
-    let at = goal.at.returns-then-n-eq0 c in
-    let both = no_frame_read (line_of at.After-frame_length-n) _ (λ f. let h = f.has_call in omega (arith, n_is at.After-frame_length-n)) in
+    let is = n_is (goal.at.returns-then-n-eq0 c).After-frame_length-n in
+    let both = no_frame_read c.args.line.now _ (λ f. let h = f.has_call in omega (arith, is)) in
     record { value = both.0; leads = both.1 }
 
 pub overflow_mul-n : goal.overflow_mul-n
@@ -41,8 +39,8 @@ overflow_mul-n c = omega (arith, n_le (goal.at.overflow_mul-n c).After-frame_len
 
 pub returns-then-line-n : goal.returns-then-line-n
 returns-then-line-n c =
-    let at = goal.at.returns-then-line-n c in
-    let both = no_frame_read (line_of at.After-frame_length-n) _ (λ f. c.if-line-n.true (f.its_length ∙ ap (λ n. 2 * n) (sym (n_is at.After-frame_length-n)))) in
+    let is = n_is (goal.at.returns-then-line-n c).After-frame_length-n in
+    let both = no_frame_read c.args.line.now _ (λ f. c.if-line-n.true (f.its_length ∙ ap (λ n. 2 * n) (sym is))) in
     record { value = both.0; leads = both.1 }
 
 pub read_bytes-requires : goal.read_bytes-requires
@@ -52,15 +50,19 @@ read_bytes-requires c =
 pub returns-then-not-read_bytes : goal.returns-then-not-read_bytes
 returns-then-not-read_bytes c =
     let at = goal.at.returns-then-not-read_bytes c in
-    let both = false_digit_read (line_of at.After-frame_length-n) _ (has at.Else-n-eq0) (n_is at.After-frame_length-n) c.if-line-n.false _ (sym (digits_read at.After-read_bytes) ∙ not-true _ c.if-not-read_bytes.true-raw) in
+    let is = n_is at.After-frame_length-n in
+    let some = has at.Else-n-eq0 in
+    let failed = sym (digits_read at.After-read_bytes some is) ∙ not-true _ c.if-not-read_bytes.true-raw in
+    let both = false_digit_read c.args.line.now _ some is c.if-line-n.false _ failed in
     record { value = both.0; leads = both.1 }
 
 pub returns : goal.returns
 returns c =
     let at = goal.at.returns c in
+    let is = n_is at.After-frame_length-n in
+    let some = has at.Else-n-eq0 in
     let all = not-false _ c.if-not-read_bytes.false-raw in
-    let whole = behind (line_of at.After-frame_length-n) _ (has at.Else-n-eq0) (n_is at.After-frame_length-n) c.if-line-n.false in
+    let whole = behind c.args.line.now _ some is c.if-line-n.false in
     let leads = rw whole at (c.read_bytes.ensures.leads all) in
-    let both = rw c.requires.0
-    (frame_read (line_of at.After-frame_length-n) _ (has at.Else-n-eq0) (n_is at.After-frame_length-n) c.if-line-n.false _ (sym (digits_read at.After-read_bytes) ∙ all) leads) in
-    record { value = both.0; leads = both.1 }
+    let read = frame_read c.args.line.now _ some is c.if-line-n.false _ (sym (digits_read at.After-read_bytes some is) ∙ all) leads in
+    record { value = rw c.requires.0 read.0; leads = read.1 }

@@ -69,4 +69,4 @@ unfolding value_or value_of is_digit
 returns-in-70 c = rw c.in-70.is
 
 pub returns-in_default : goal.returns-in_default
-returns-in_default c = sym (no_digit c.args.c c.in_default.rest)
+returns-in_default c = sym (no_digit c.args.c c.in_default.in_default-own.rest)
