@@ -1,5 +1,5 @@
 use mathlib.Core.Path.{◌≡◌, sym, ap, ◌∙◌}
-use mathlib.Core.List.{◌∷◌, ◌++◌}
+use mathlib.Core.List.{[], ◌∷◌, ◌++◌}
 use native.Mathlib.Omega.{arith}
 use lib.ListN.{length, drop, length-set, length-drop}
 use lib.Seq.{take_all, length-take-le}
@@ -26,7 +26,7 @@ write_hex-requires c =
     let long = made at.After-bytes-1 in rw (length-take-le 2 c.reply_bytes-bytes.result (omega arith)) (omega arith)
 
 pub shape_of-out : goal.shape_of-out
-shape_of-out c = rw length-set (c.write_hex-2.auto.1.0 ∙ c.write_hex.auto.1.0)
+shape_of-out c = rw length-set (c.write_hex-2.auto.out ∙ c.write_hex.auto.out)
 
 pub returns : goal.returns
 unfolding reply_line
@@ -36,5 +36,5 @@ returns c =
     let long = made (goal.at.returns c).After-bytes-1 in
     let all = take_all 24 (drop 2 bytes.result) (simp length-drop (omega arith)) in
     rw (c.write_hex-2.ensures, c.write_hex.ensures, all)
-    (rw long at (line_shown a.out-1.now a.at 2 bytes.result (omega arith) (omega arith) line_end)
-    ∙ ap (λ l. over a.out-1.now a.at (hex_of l ++ (line_end ∷ []))) bytes.ensures)
+    (rw long at (line_shown a.out.now a.at 2 bytes.result (omega arith) (omega arith) line_end)
+    ∙ ap (λ l. over a.out.now a.at (hex_of l ++ (line_end ∷ []))) bytes.ensures)
