@@ -33,5 +33,5 @@ returns c = let l = c.loop-k in
     let taken = take-paste a.line.now a.len a.bytes.now j.result (omega arith) (omega arith) in
     record {
       upper_bound = omega arith;
-      line_after = rw (l.invariant.2, all) (taken ∙ joined_line a.line.now a.len a.bytes.now j.result c.requires.0 c.requires.1 j.ensures.1);
+      line_after = rw (l.invariant.2, all) (taken ∙ joined_line a.line.now a.len a.bytes.now j.result c.requires.0 c.requires.1 j.ensures.clipped);
     }
