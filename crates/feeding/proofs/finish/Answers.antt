@@ -6,7 +6,7 @@ use Rattle.feeding.proofs.finish.Goals as goal
 pub returns-then-len-eq0 : goal.returns-then-len-eq0
 returns-then-len-eq0 c =
     let a = c.args in
-    ends_none a.table-1.now a.line.now a.out-1.now a.s c.requires.0 c.if-len-eq0.true
+    ends_none a.table.now a.line.now a.out.now a.s c.requires.0 c.if-len-eq0.true
 
 pub slice_bounds-answer_line-end : goal.slice_bounds-answer_line-end
 slice_bounds-answer_line-end c =
@@ -18,5 +18,5 @@ returns c =
     let x = c.answer_line in
     let some = c.if-len-eq0.false in
     let a = c.args in
-    ends_line a.table-1.now a.line.now a.out-1.now a.s _ _ _ c.requires.0 c.requires.1 (omega (arith, some)) x.ensures.0
-    x.auto.1.0 x.auto.1.1.0
+    ends_line a.table.now a.line.now a.out.now a.s _ _ _ c.requires.0 c.requires.1 (omega (arith, some)) x.ensures.answers_line
+    x.auto.table x.auto.out
