@@ -12,9 +12,9 @@ use Rattle.basics.proofs.Tests.{clash, either}
 use Rattle.quorum.specs.Configurations.{holds_read}
 use Rattle.quorum.specs.Promise.{◌⊆◌}
 use Rattle.quorum.proofs.Promise.{promise}
-use Rattle.layout.specs.Fields.{none, change}
+use Rattle.layout.specs.Fields.{change}
 use Rattle.layout.specs.Newest.{hears}
-use Rattle.layout.specs.View.{Table, State, view, own}
+use Rattle.layout.specs.View.{Table, State, view}
 use Rattle.layout.proofs.Contents.{SameWhole}
 use Rattle.layout.proofs.Soundness.{StateSound, is_sound_lem}
 use Rattle.layout.proofs.Newer.{hears_same, hears_alike}
