@@ -1,4 +1,4 @@
--- What the runner has in hand between two reads. No contract of `read` and `write` says which bytes they moved, nor when they fail. So this fixes how
+-- What the runner has in hand between two reads. No contract says which bytes the system's streams move, nor when a read or a write fails. So this fixes how
 -- table and line are carried from piece to piece (`AnswersPiece`), and that from read to read they are such as the definition has (`AfterInput`), while
 -- nothing fails; what the program reads and prints is tested.
 -- `AfterRead` has the lengths in use of the table (`used`) and of the line so far (`len`), how many bytes the last read gave (`read`), and whether all

@@ -113,8 +113,8 @@ fn answer_read<R: Read, W: Write>(
 // How many reads may follow, of so many: none where the last gave no byte, and none after a failure.
 fn reads_left(reads: u64, s: AfterRead) -> u64
     requires { 0 < reads }
-    ensures upper_bound { result < reads }
-    ensures whole_value { 0 < result → s.whole ≡ true }
+    ensures fewer { result < reads }
+    ensures only_whole { 0 < result → s.whole ≡ true }
 {
     if s.whole {
         if s.read > 0 {

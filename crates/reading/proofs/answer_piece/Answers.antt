@@ -14,7 +14,7 @@ pub loop-fed-smaller : goal.loop-fed-smaller
 loop-fed-smaller g c =
     let l = c.loop-fed in
     let room : reply_line_size ≤ length l.out = omega (arith, c.requires.1, l.auto.out) in
-    let more = forward _ _ _ _ _ _ _ _ _ c.feed-r.ensures.takes l.invariant.empty room c.loop-fed-test.true c.feed-r.ensures.fact in
+    let more = forward _ _ _ _ _ _ _ _ _ c.feed-r.ensures.takes l.invariant.empty room c.loop-fed-test.true c.feed-r.ensures.ended_or_full in
     omega arith
 
 pub loop-fed-preserved : goal.loop-fed-preserved

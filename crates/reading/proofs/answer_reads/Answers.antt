@@ -35,7 +35,7 @@ loop-reads-preserved g c =
     record {
       ready = c.answer_read-s.ensures.ready;
       stopped = now;
-      whole = c.reads_left-reads.ensures.whole_value;
+      whole = c.reads_left-reads.ensures.only_whole;
       so_far = λ whole. run_more _ _ _ _ _ _ _ _ _ _ _ _ _ (l.so_far (l.whole c.loop-reads-test.true)) (c.answer_read-s.ensures.moved whole) answered whole;
       ended = λ _ whole none room. (c.answer_read-s.ensures.moved whole).ended none room;
     }
