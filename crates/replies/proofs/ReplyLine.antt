@@ -7,7 +7,7 @@ use Rattle.basics.proofs.Bytes.{number_one}
 use Rattle.basics.proofs.Parts.{length_bytes, read_bytes, bytes_of_lem, bytes_append}
 use Rattle.rules.specs.declared.Reply.{Reply}
 use Rattle.frames.specs.Hex.{bytes_in, hex_of}
-use Rattle.basics.specs.Bytes.{AreBytes, number, bytes_of, over}
+use Rattle.basics.specs.Bytes.{AreBytes, bytes_of, over}
 use Rattle.frames.proofs.Digits.{byte_halves, hex_length}
 use Rattle.replies.specs.ReplyLine.{reply_size, line_end, reply_bytes, reply_line_size, reply_line, Showable, Shows}
 

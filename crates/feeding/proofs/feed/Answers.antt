@@ -1,5 +1,4 @@
 use mathlib.Core.Logic.{inl, inr}
-use Prim.Native.Nat.{◌-◌}
 use native.Mathlib.Omega.{arith}
 use Rattle.feeding.proofs.Taking.{same_tables, same_lines, takes_none, takes_more}
 use Rattle.feeding.proofs.feed.Goals as goal

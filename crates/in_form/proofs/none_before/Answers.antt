@@ -1,5 +1,4 @@
 use borrow.Author.Rules.{rules}
-use Prim.Native.Nat.{◌-◌}
 use native.Mathlib.Omega.{arith}
 use Rattle.in_form.proofs.Ordered.{yes, no, apart_more, not-apart}
 use Rattle.in_form.proofs.none_before.Goals as goal

@@ -1,5 +1,4 @@
 use mathlib.Core.Path.{sym, ◌∙◌}
-use Prim.Native.Nat.{◌-◌}
 use Rattle.lines.proofs.Splitting.{end_here, end_further, end_over}
 use Rattle.lines.proofs.find_end.Goals as goal
 

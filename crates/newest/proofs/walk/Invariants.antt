@@ -2,7 +2,7 @@ use mathlib.Core.List.{List}
 use mathlib.Core.Option.{Option, none, some}
 use Prim.Native.Nat.{ℕ}
 use Rattle.layout.specs.Fields.{copies_of}
-use Rattle.layout.specs.Walk.{Walked, onward, walk}
+use Rattle.layout.specs.Walk.{Walked, onward}
 use Rattle.layout.proofs.Along.{along, Left}
 use Rattle.newest.specs.Walks.{as_option}
 use Rattle.newest.proofs.walk.Given as goal

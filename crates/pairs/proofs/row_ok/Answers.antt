@@ -1,5 +1,4 @@
 use borrow.Author.Rules.{rules}
-use Prim.Native.Nat.{◌-◌}
 use mathlib.Core.Path.{sym}
 use Rattle.pairs.specs.Pairs.{row_ok}
 use Rattle.basics.proofs.Tests.{all_start, all_turn, all_end}

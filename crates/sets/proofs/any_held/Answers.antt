@@ -1,5 +1,4 @@
 use borrow.Author.Rules.{rules}
-use Prim.Native.Nat.{◌-◌}
 use mathlib.Core.Path.{sym, ◌∙◌}
 use Rattle.sets.specs.Inner.{first_held}
 use Rattle.sets.proofs.Sides.{some_place}

@@ -1,5 +1,4 @@
 use borrow.Author.Rules.{rules}
-use Prim.Native.Nat.{◌-◌}
 use mathlib.Core.Path.{refl, sym}
 use Rattle.quorum.specs.Configurations.{config_size}
 use Rattle.validity.specs.Rows.{same_again}

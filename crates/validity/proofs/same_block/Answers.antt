@@ -1,7 +1,6 @@
 use native.Mathlib.Omega.{arith}
 use borrow.Author.Rules.{rules}
 use mathlib.Core.Path.{sym}
-use Prim.Native.Nat.{◌-◌}
 use Rattle.quorum.specs.Configurations.{config_size}
 use Rattle.basics.proofs.Tests.{all_start, all_turn, all_end}
 use Rattle.validity.specs.Rows.{same_block}

@@ -3,7 +3,6 @@ use Rattle.writes.proofs.Writes.{lay_start, lay_turn}
 use Rattle.basics.proofs.Parts.{part_length}
 use Rattle.basics.specs.Bytes.{part}
 use native.Mathlib.Omega.{arith}
-use Prim.Native.Nat.{◌-◌}
 use mathlib.Core.Path.{◌≡◌, refl, ◌∙◌}
 use Rattle.writes.proofs.lay_rest.Goals as goal
 

@@ -2,7 +2,6 @@ use Rattle.basics.proofs.Writing.{writing_start, writing_turn, writing_end, part
 use Rattle.basics.proofs.Parts.{part_length}
 use Rattle.basics.specs.Bytes.{part}
 use native.Mathlib.Omega.{arith}
-use Prim.Native.Nat.{◌-◌}
 use mathlib.Core.Path.{refl}
 use borrow.Author.Rules.{rules}
 use Rattle.writes.proofs.put_part.Goals as goal

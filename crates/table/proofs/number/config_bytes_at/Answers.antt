@@ -5,7 +5,6 @@ use Rattle.basics.proofs.Writing.{writing_start, writing_turn, writing_end, part
 use native.Mathlib.Nat.{zero-add}
 use Rattle.basics.proofs.Parts.{part_length}
 use borrow.Author.Rules.{rules}
-use Prim.Native.Nat.{◌-◌}
 use Rattle.basics.specs.Bytes.{part}
 use Rattle.table.proofs.number.config_bytes_at.Goals as goal
 

@@ -1,6 +1,5 @@
 use Rattle.basics.proofs.Writing.{writing_start, writing_turn, writing_end, list_next, list_done}
 use borrow.Author.Rules.{rules}
-use Prim.Native.Nat.{◌-◌}
 use mathlib.Core.Path.{refl}
 use Rattle.table.proofs.number.put_config_bytes.Goals as goal
 

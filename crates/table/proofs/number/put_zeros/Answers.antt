@@ -1,6 +1,5 @@
 use borrow.Author.Rules.{rules}
 use native.Mathlib.Nat.{sub-zero}
-use Prim.Native.Nat.{◌-◌}
 use mathlib.Core.Path.{refl}
 use Rattle.basics.proofs.Writing.{writing_start, writing_turn, writing_end, zeros_next, zeros_done}
 use Rattle.table.proofs.number.put_zeros.Goals as goal
