@@ -1,4 +1,4 @@
-// Standard input, read piece by piece and answered.
+// A reader, as standard input, read piece by piece and answered to a writer.
 #![tactic(auto)]
 
 ghost use Rattle.std.specs.Prelude.{◌≡◌, true, ◌<◌, OnOk, length, take};

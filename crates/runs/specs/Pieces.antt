@@ -40,7 +40,7 @@ unfoldable pub printed_by : InHand → List ℕ → List ℕ
 printed_by s [] = []
 printed_by s (byte ∷ rest) = printed_at s byte ++ printed_by (next s byte) rest
 
--- ---- the end of input, as `lines_of` has it (`in_pieces`): "A last line of one byte or more without its line end counts as a line."
+-- ---- the end of input, as `lines_of` has it (`in_pieces_lem`): "A last line of one byte or more without its line end counts as a line."
 abbrev pub printed_last : Table → List ℕ → List ℕ
 printed_last t [] = []
 printed_last t (byte ∷ rest) = printed t (byte ∷ rest)

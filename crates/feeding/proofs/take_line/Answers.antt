@@ -59,7 +59,8 @@ returns c = let x = c.answer_line-2 in
     let short : length line ≤ enough = rw length-take (omega (arith, k.ensures.upper_bound)) in
     let took =
     took_line a.piece.now a.table.now a.line.now a.out.now a.s a.end c.requires.is_line_end.0 fits line _ _ _ _
-    c.requires.is_line_end.1 c.requires.fits.1 (clip-all line short ∙ k.ensures.line_after) x.ensures.answers_line x.ensures.stays_there x.auto.table k.auto.line x.auto.out in
+    c.requires.is_line_end.1 c.requires.fits.1 (clip-all line short ∙ k.ensures.line_after)
+    x.ensures.answers_line x.ensures.stays_there x.auto.table k.auto.line x.auto.out in
     record {
       takes = took;
       goes_on = omega (arith, x.ensures.stays_there, end_forward a.piece.now a.s.at a.end c.requires.is_line_end.0);

@@ -4,6 +4,15 @@ use borrow.Author.Tests.{not-true, not-false}
 use Rattle.form_writer.proofs.Answers.{not_listed, false-configuration, formed}
 use Rattle.form_writer.proofs.standard_form.Goals as goal
 
+pub returns : goal.returns
+returns c = let some = c.if-n-eq0.false in
+    let answer = formed _ _ _ (omega (arith, some)) c.if-n-gt16.false c.if-out-ne-CONFIG_SIZE.false
+    (sym c.is_valid.ensures ∙ not-false _ c.if-not-is_valid.false-raw) in
+    record {
+      value = answer.0;
+      out_after = c.put_config_bytes.ensures ∙ rw c.form_of.ensures answer.1;
+    }
+
 pub returns-then-n-eq0 : goal.returns-then-n-eq0
 returns-then-n-eq0 c =
     let both = not_listed _ _ _ (λ h. omega (arith, h.0, c.if-n-eq0.true)) in
@@ -29,12 +38,3 @@ returns-then-not-is_valid c =
 pub form_of-requires : goal.form_of-requires
 form_of-requires c =
     (_, sym c.is_valid.ensures ∙ not-false _ c.if-not-is_valid.false-raw)
-
-pub returns : goal.returns
-returns c = let some = c.if-n-eq0.false in
-    let answer = formed _ _ _ (omega (arith, some)) c.if-n-gt16.false c.if-out-ne-CONFIG_SIZE.false
-    (sym c.is_valid.ensures ∙ not-false _ c.if-not-is_valid.false-raw) in
-    record {
-      value = answer.0;
-      out_after = c.put_config_bytes.ensures ∙ rw c.form_of.ensures answer.1;
-    }

@@ -22,6 +22,14 @@ answers t n item set e =
       ap walked_generation is_walk ∙ one_walk.generation (copies_of t n item) set n,
     )
 
+pub onward-newest-requires : goal.onward-newest-requires
+onward-newest-requires c = (c.requires, c.if-n-s.false)
+
+pub loop-rest-preserved : goal.loop-rest-preserved
+loop-rest-preserved c =
+    left_turn c.loop-rest.invariant c.loop-rest-test.true c.without_lowest-rest.ensures c.lowest-s.ensures c.if-n-s.false
+    (ap some c.onward-newest.ensures)
+
 pub loop-rest-init : goal.loop-rest-init
 loop-rest-init c = left_start _ _ _ _ c.ranges.set.fits
 
@@ -30,17 +38,9 @@ returns-then-n-s c =
     let found = answers _ _ _ _ (left_past c.loop-rest.invariant c.lowest-s.ensures c.if-n-s.true) in
     record { walked = found.0; version = found.1; generation = found.2 }
 
-pub onward-newest-requires : goal.onward-newest-requires
-onward-newest-requires c = (c.requires, c.if-n-s.false)
-
 pub loop-rest-smaller : goal.loop-rest-smaller
 loop-rest-smaller c =
     left_falls c.loop-rest.invariant c.loop-rest-test.true c.without_lowest-rest.ensures
-
-pub loop-rest-preserved : goal.loop-rest-preserved
-loop-rest-preserved c =
-    left_turn c.loop-rest.invariant c.loop-rest-test.true c.without_lowest-rest.ensures c.lowest-s.ensures c.if-n-s.false
-    (ap some c.onward-newest.ensures)
 
 pub returns : goal.returns
 returns c =

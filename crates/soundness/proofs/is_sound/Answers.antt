@@ -51,4 +51,5 @@ rest_ok-requires-2 c = (size_passed (goal.at.rest_ok-requires-2 c).Else-not-size
 pub returns : goal.returns
 returns c =
     let at = goal.at.returns c in
-    c.rest_ok-2.ensures ∙ sound_other _ (size_passed at.Else-not-size_ok) (head_passed at.Else-not-head_ok) (λ e. c.if-kind-eq-CHANGE.false (c.kind.ensures ∙ e))
+    c.rest_ok-2.ensures
+    ∙ sound_other _ (size_passed at.Else-not-size_ok) (head_passed at.Else-not-head_ok) (λ e. c.if-kind-eq-CHANGE.false (c.kind.ensures ∙ e))
