@@ -23,7 +23,7 @@ module _ (t : List ℕ) {r : Reply} (e : r ≡ reply t commit) where
 
   pub commit_refused : (r.number ≡ 0 → ⊥) → Answers t commit r t
   unfolding after
-  commit_refused h = (e, rw (← commit_number, ne_eqb r.number 0 h))
+  commit_refused h = record { value = e; table_after = rw (← commit_number, ne_eqb r.number 0 h) }
 
   -- what is stored are its figures and the round's target
   stored_is : r.number ≡ 0
@@ -43,4 +43,4 @@ module _ (t : List ℕ) {r : Reply} (e : r ≡ reply t commit) where
   unfolding after done view
   commit_finished h a b q =
       let z : number_of (view t) commit ≡ 0 = sym commit_number ∙ h in
-      (e, q ∙ rw (a, b, z, stored_is h))
+      record { value = e; table_after = q ∙ rw (a, b, z, stored_is h) }

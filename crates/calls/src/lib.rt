@@ -24,7 +24,7 @@ use writes::finish;
 pub fn poll_on(t: &mut [u8], station: u64) -> Reply
     requires { sound t.old ≡ true }
     ensures value { result ≡ reply t.old (poll station) }
-    ensures t_after { t.new ≡ after t.old (poll station) }
+    ensures table_after { t.new ≡ after t.old (poll station) }
 {
     let number = poll_number(t, station);
     if number != DONE {
@@ -44,7 +44,7 @@ pub fn poll_on(t: &mut [u8], station: u64) -> Reply
 pub fn put_on(t: &mut [u8], station: u64, sort: u64) -> Reply
     requires { sound t.old ≡ true }
     ensures value { result ≡ reply t.old (put station sort) }
-    ensures t_after { t.new ≡ after t.old (put station sort) }
+    ensures table_after { t.new ≡ after t.old (put station sort) }
 {
     let number = put_number(t, station, sort);
     if number != DONE {
@@ -58,7 +58,7 @@ pub fn put_on(t: &mut [u8], station: u64, sort: u64) -> Reply
 pub fn commit_on(t: &mut [u8]) -> Reply
     requires { sound t.old ≡ true }
     ensures value { result ≡ reply t.old commit }
-    ensures t_after { t.new ≡ after t.old commit }
+    ensures table_after { t.new ≡ after t.old commit }
 {
     let number = idle_number(t);
     if number != DONE {
@@ -84,7 +84,7 @@ pub fn commit_on(t: &mut [u8]) -> Reply
 pub fn link_on(t: &mut [u8], station: u64, state: u64) -> Reply
     requires { sound t.old ≡ true }
     ensures value { result ≡ reply t.old (link station state) }
-    ensures t_after { t.new ≡ after t.old (link station state) }
+    ensures table_after { t.new ≡ after t.old (link station state) }
 {
     let number = link_number(t, station, state);
     if number != DONE {

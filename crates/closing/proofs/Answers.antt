@@ -59,20 +59,20 @@ refused-reply t {k} e h = rw (← e, ne_eqb k 0 h)
 
 -- in a heard round, by its kind
 module _ (t : List ℕ) {k : Kind} (e : OfKind t k) where
-  number-by-kind : closing_number t ≡ first (commit_tests (view t) k)
-  number-by-kind = rw e
+  number_by_kind : closing_number t ≡ first (commit_tests (view t) k)
+  number_by_kind = rw e
 
   pub spent-number : spent (view t) k ≡ true → 10 ≡ closing_number t
   unfolding first
-  spent-number s = sym (number-by-kind ∙ rw s)
+  spent-number s = sym (number_by_kind ∙ rw s)
 
   pub short-number : spent (view t) k ≡ false → written (view t) k ≡ false → 11 ≡ closing_number t
   unfolding first
-  short-number s w = sym (number-by-kind ∙ rw (s, w))
+  short-number s w = sym (number_by_kind ∙ rw (s, w))
 
   pub done-number : spent (view t) k ≡ false → written (view t) k ≡ true → 0 ≡ closing_number t
   unfolding first
-  done-number s w = sym (number-by-kind ∙ rw (s, w))
+  done-number s w = sym (number_by_kind ∙ rw (s, w))
 
   -- a number of 0 says that the counter is not spent, and then the figures are those of the kind
   module _ (z : closing_number t ≡ 0) where
@@ -80,14 +80,14 @@ module _ (t : List ℕ) {k : Kind} (e : OfKind t k) where
     unfolding first
     not-spent = fails _ (λ s. let y : ◌≡◌ {A = ℕ} 10 0 = spent-number s ∙ z in absurd (omega arith))
 
-    pub closes-with : {a b c : ℕ} → a ≡ (closing (view t) k).first → b ≡ (closing (view t) k).second → c ≡ (closing (view t) k).third
+    pub closes_with : {a b c : ℕ} → a ≡ (closing (view t) k).first → b ≡ (closing (view t) k).second → c ≡ (closing (view t) k).third
         → record { number = 0; first = a; second = b; third = c } ≡ closing_reply t
     unfolding figures_of
-    closes-with p q r = (λ i. record { number = 0; first = p i; second = q i; third = r i }) ∙ rw (z, e)
+    closes_with p q r = (λ i. record { number = 0; first = p i; second = q i; third = r i }) ∙ rw (z, e)
 
 -- ---- what is read from the newest copies is what the round has found
-pub value-is : (t : List ℕ) (b : ℕ) {x : ℕ} → VersionAt t b → x ≡ (copy_from t b).value → x ≡ (found_by_version (view t)).value
-value-is t b h e = rw h.0 e
+pub value_is : (t : List ℕ) (b : ℕ) {x : ℕ} → VersionAt t b → x ≡ (copy_from t b).value → x ≡ (found_by_version (view t)).value
+value_is t b h e = rw h.0 e
 
 pub config_is : {t : List ℕ} {g : ℕ} {c : List ℕ} → HeardAt t g → c ≡ (copy_from t g).config → c ≡ (found_by_generation (view t)).config
 config_is h e = rw h.generation e

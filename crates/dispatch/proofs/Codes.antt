@@ -121,5 +121,5 @@ module _ (arguments more : List ℕ) where
 
 -- ---- what a call replies and leaves is what its code and arguments do
 pub performed : (t : List ℕ) {last : List ℕ} {r : Reply} {o : Option Call} {c : Call} → o ≡ some c → r ≡ reply t c → last ≡ after t c
-    → (r ≡ reply_or t o) × (last ≡ after_or t o)
-performed t e p q = rw e (p, q)
+    → record { value : r ≡ reply_or t o; table_after : last ≡ after_or t o }
+performed t e p q = record { value = rw e p; table_after = rw e q }

@@ -17,13 +17,13 @@ use Rattle.spelling.specs.Writer.{form_refusals, form_number, form_output}
 use Rattle.spelling.proofs.StandardForm.{sizes}
 
 module _ (n : ℕ) (config out : List ℕ) where
-  -- what a call that returns this number and leaves this output is asked for
+  -- what a call that returns this number and leaves this output is asked for, as the contract names the two
   abbrev pub Answers : ℕ → List ℕ → Type 0
-  Answers k after = (k ≡ form_number n config out) × (after ≡ form_output n config out)
+  Answers k after = record { value : k ≡ form_number n config out; out_after : after ≡ form_output n config out }
 
   answers : (k : ℕ) (after : List ℕ) → form_number n config out ≡ k → after ≡ cond (eqb k 0) (standard_form n config) out → Answers k after
   unfolding form_output
-  answers k after e o = (sym e, o ∙ rw e)
+  answers k after e o = record { value = sym e; out_after = o ∙ rw e }
 
   -- there are 1 to 16 stations, and the output is 32 bytes long
   abbrev Listed : Type 0
@@ -37,9 +37,9 @@ module _ (n : ℕ) (config out : List ℕ) where
     listed : (listed_stations n && eqb (length out) config_size) ≡ true
     listed = (sizes n out).1 (low, high, long)
 
-    pub false-configuration : valid n config ≡ false → Answers 3 out
+    pub false_configuration : valid n config ≡ false → Answers 3 out
     unfolding form_number form_refusals first
-    false-configuration e = answers 3 out (rw (listed, e)) refl
+    false_configuration e = answers 3 out (rw (listed, e)) refl
 
     pub formed : valid n config ≡ true → Answers 0 (over out 0 (standard_form 16 config))
     unfolding form_number form_refusals first

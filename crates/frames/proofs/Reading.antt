@@ -136,13 +136,13 @@ arguments_behind [] l = absurd (omega arith)
 arguments_behind (a ∷ []) l = absurd (omega arith)
 arguments_behind (a ∷ b ∷ rest) l = refl
 
--- what the reader hands over for a line
+-- what the reader hands over for a line, as its contract names the two
 abbrev pub Read : List ℕ → ℕ → List ℕ → Type 0
-Read line code buffer = (code ≡ code_in line) × (is_frame line ≡ true → Leads (arguments_in line) buffer)
+Read line code buffer = record { value : code ≡ code_in line; leads : is_frame line ≡ true → Leads (arguments_in line) buffer }
 
 pub no_frame_read : (line buffer : List ℕ) → (Framed line → ⊥) → Read line 0 buffer
 unfolding code_in
-no_frame_read line buffer f = (rw (not_frame line f), λ e. absurd (f (framed line e)))
+no_frame_read line buffer f = record { value = rw (not_frame line f); leads = λ e. absurd (f (framed line e)) }
 
 module _ (line : List ℕ) (n : ℕ) (has : 0 < n) (is : n ≡ frame_length (call_byte line)) (long : length line ≡ 2 * n) where
   -- the characters behind the first two, lent as a part
@@ -154,7 +154,7 @@ module _ (line : List ℕ) (n : ℕ) (has : 0 < n) (is : n ≡ frame_length (cal
   frame_read buffer d leads =
       let digits = digits_behind line (rw is at has) (omega arith) ∙ d in
       let f = is_frame_lem line (record { has_call = rw is at has; its_length = long ∙ ap (λ n. 2 * n) is; digits = digits }) in
-      (rw f, λ _. rw (arguments_behind line (omega arith)) leads)
+      record { value = rw f; leads = λ _. rw (arguments_behind line (omega arith)) leads }
 
   pub false_digit_read : (buffer : List ℕ) → all_digits (drop 2 line) ≡ false → Read line 0 buffer
   false_digit_read buffer d =

@@ -21,18 +21,18 @@ use Rattle.rules.proofs.Judged.{allowed, sound-number}
 abbrev pub plain_reply : ℕ → Reply
 plain_reply k = record { number = k; first = 0; second = 0; third = 0 }
 
--- the reply to a call, and the table after it
+-- the reply to a call, and the table after it, as the contracts name the two
 abbrev pub Answers : List ℕ → Call → Reply → List ℕ → Type 0
-Answers t c r u = (r ≡ reply t c) × (u ≡ after t c)
+Answers t c r u = record { value : r ≡ reply t c; table_after : u ≡ after t c }
 
 module _ (t : List ℕ) (c : Call) {k : ℕ} (e : k ≡ number_of (view t) c) where
   pub by_refusal : {r : Reply} → (k ≡ 0 → ⊥) → r ≡ plain_reply k → Answers t c r t
   unfolding reply_of after
-  by_refusal h p = let z = ne_eqb k 0 h in (p ∙ rw (← e, z), rw (← e, z))
+  by_refusal h p = let z = ne_eqb k 0 h in record { value = p ∙ rw (← e, z); table_after = rw (← e, z) }
 
   pub by_doing : {r : Reply} {u : List ℕ} → k ≡ 0 → r ≡ answer 0 (figures_of (view t) c) → u ≡ done t (view t) c → Answers t c r u
   unfolding reply_of after
-  by_doing h p q = (p ∙ rw (← e, h), q ∙ rw (← e, h))
+  by_doing h p q = record { value = p ∙ rw (← e, h); table_after = q ∙ rw (← e, h) }
 
   -- a call with no figures
   pub by_plain : {r : Reply} {u : List ℕ} → figures_of (view t) c ≡ no_figures → k ≡ 0 → r ≡ plain_reply 0 → u ≡ done t (view t) c → Answers t c r u

@@ -16,7 +16,7 @@ use table::head::set_round;
 pub fn open_read_on(t: &mut [u8], i: u64) -> Reply
     requires { sound t.old ≡ true }
     ensures value { result ≡ reply t.old (open_read i) }
-    ensures t_after { t.new ≡ after t.old (open_read i) }
+    ensures table_after { t.new ≡ after t.old (open_read i) }
 {
     let number = open_number(t, i);
     if number != DONE {
@@ -29,7 +29,7 @@ pub fn open_read_on(t: &mut [u8], i: u64) -> Reply
 pub fn open_write_on(t: &mut [u8], i: u64, value: u64) -> Reply
     requires { sound t.old ≡ true }
     ensures value { result ≡ reply t.old (open_write i value) }
-    ensures t_after { t.new ≡ after t.old (open_write i value) }
+    ensures table_after { t.new ≡ after t.old (open_write i value) }
 {
     let number = open_number(t, i);
     if number != DONE {
@@ -43,7 +43,7 @@ pub fn open_write_on(t: &mut [u8], i: u64, value: u64) -> Reply
 pub fn open_change_on(t: &mut [u8], i: u64, target: &[u8]) -> Reply
     requires { sound t.old ≡ true }
     ensures value { result ≡ reply t.old (open_change i target.now) }
-    ensures t_after { t.new ≡ after t.old (open_change i target.now) }
+    ensures table_after { t.new ≡ after t.old (open_change i target.now) }
 {
     let number = open_change_number(t, i, target);
     if number != DONE {
@@ -56,7 +56,7 @@ pub fn open_change_on(t: &mut [u8], i: u64, target: &[u8]) -> Reply
 pub fn abandon_on(t: &mut [u8]) -> Reply
     requires { sound t.old ≡ true }
     ensures value { result ≡ reply t.old abandon }
-    ensures t_after { t.new ≡ after t.old abandon }
+    ensures table_after { t.new ≡ after t.old abandon }
 {
     let number = idle_number(t);
     if number != DONE {

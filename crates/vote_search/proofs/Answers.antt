@@ -60,27 +60,27 @@ true-fit votes read write sum p q e f =
 
 -- ---- the reply
 module _ (votes : List ℕ) (read write : ℕ) (out : List ℕ) where
-  -- what a call that returns this number and leaves this output is asked for
+  -- what a call that returns this number and leaves this output is asked for, as the contract names the two
   abbrev pub Answers : ℕ → List ℕ → Type 0
-  Answers k after = (k ≡ votes_number votes read write out) × (after ≡ votes_output votes read write out)
+  Answers k after = record { value : k ≡ votes_number votes read write out; out_after : after ≡ votes_output votes read write out }
 
   answers : (k : ℕ) (after : List ℕ) → votes_number votes read write out ≡ k → after ≡ cond (eqb k 0) (configuration_of votes read write) out → Answers k after
   unfolding votes_output
-  answers k after e o = (sym e, o ∙ rw e)
+  answers k after e o = record { value = sym e; out_after = o ∙ rw e }
 
-  pub not-32 : (length out ≡ config_size → ⊥) → Answers 2 out
+  pub not_32 : (length out ≡ config_size → ⊥) → Answers 2 out
   unfolding votes_number votes_refusals first
-  not-32 h = answers 2 out (rw (ne_eqb (length out) config_size h)) refl
+  not_32 h = answers 2 out (rw (ne_eqb (length out) config_size h)) refl
 
   module _ (long : length out ≡ config_size) where
-    pub false-votes : (TrueVotes votes read write → ⊥) → Answers 13 out
+    pub false_votes : (TrueVotes votes read write → ⊥) → Answers 13 out
     unfolding votes_number votes_refusals first
-    false-votes h =
+    false_votes h =
         let f = fails (all (true_votes votes read write)) (λ e. h ((true_votes_lem votes read write).0 e)) in
         answers 13 out (rw (eq-eqb (length out) config_size long, f)) refl
 
-    pub false-thresholds : (sum : ℕ) → sum ≡ total votes → fit read write sum ≡ false → Answers 13 out
-    false-thresholds sum e f = false-votes (λ t. clash (fit-true votes read write sum e t) f)
+    pub false_thresholds : (sum : ℕ) → sum ≡ total votes → fit read write sum ≡ false → Answers 13 out
+    false_thresholds sum e f = false_votes (λ t. clash (fit-true votes read write sum e t) f)
 
     module _ (t : TrueVotes votes read write) where
       passed : all (true_votes votes read write) ≡ true
@@ -103,8 +103,8 @@ module _ (votes : List ℕ) (read write : ℕ) (out : List ℕ) where
           → Answers 0 (over (over out 0 (side_bytes reads)) 16 (side_bytes writes))
       unfolding votes_number votes_refusals first too_many configuration_of
       written reads writes r w f l g m =
-          let few-reads : length (smallest_sets votes read) ≤ 8 = omega (arith, f.all l) in
-          let few-writes : length (smallest_sets votes write) ≤ 8 = omega (arith, g.all m) in
+          let few_reads : length (smallest_sets votes read) ≤ 8 = omega (arith, f.all l) in
+          let few_writes : length (smallest_sets votes write) ≤ 8 = omega (arith, g.all m) in
           answers 0 _
-          (rw (eq-eqb (length out) config_size long, passed, le-ltb 8 _ few-reads, le-ltb 8 _ few-writes))
+          (rw (eq-eqb (length out) config_size long, passed, le-ltb 8 _ few_reads, le-ltb 8 _ few_writes))
           (written_config out reads writes _ _ long (record { each = f.each l }) (record { each = g.each m }))

@@ -13,8 +13,7 @@ pub returns-then-number-ne-DONE : goal.returns-then-number-ne-DONE
 returns-then-number-ne-DONE c =
     let refused = c.if-number-ne-DONE.true in
     let told = c.plain.ensures in
-    let both = commit_refused _ (told ∙ idle-reply _ c.requires c.idle_number-number.ensures refused) (λ z. refused (sym (ap (λ r. r.number) told) ∙ z)) in
-    record { value = both.0; t_after = both.1 }
+    commit_refused _ (told ∙ idle-reply _ c.requires c.idle_number-number.ensures refused) (λ z. refused (sym (ap (λ r. r.number) told) ∙ z))
 
 pub commit_reply-outcome-requires : goal.commit_reply-outcome-requires
 unfolding needs
@@ -23,8 +22,7 @@ commit_reply-outcome-requires c =
 
 pub returns-then-outcome-ne-DONE : goal.returns-then-outcome-ne-DONE
 returns-then-outcome-ne-DONE c =
-    let both = commit_refused _ c.commit_reply-outcome.ensures c.if-outcome-ne-DONE.true in
-    record { value = both.0; t_after = both.1 }
+    commit_refused _ c.commit_reply-outcome.ensures c.if-outcome-ne-DONE.true
 
 pub stations-requires : goal.stations-requires
 stations-requires c = sound_head _ c.requires
@@ -40,6 +38,5 @@ finish-requires c =
 
 pub returns : goal.returns
 returns c =
-    let both = commit_finished _ c.commit_reply-outcome.ensures c.if-outcome-ne-DONE.false c.stations.ensures c.«of».ensures
-    c.finish.ensures in
-    record { value = both.0; t_after = both.1 }
+    commit_finished _ c.commit_reply-outcome.ensures c.if-outcome-ne-DONE.false c.stations.ensures c.«of».ensures
+    c.finish.ensures

@@ -14,7 +14,7 @@ own_number c = c.idle_number-number.ensures ∙ diagnose_asks _
 pub returns-then-number-ne-DONE : goal.returns-then-number-ne-DONE
 returns-then-number-ne-DONE c =
     let at = goal.at.returns-then-number-ne-DONE c in
-    (refused _ c.requires diagnose refl (own_number at.After-idle_number-number) c.if-number-ne-DONE.true c.plain.ensures).0
+    (refused _ c.requires diagnose refl (own_number at.After-idle_number-number) c.if-number-ne-DONE.true c.plain.ensures).value
 
 pub diagnose_reply-requires : goal.diagnose_reply-requires
 unfolding needs

@@ -11,8 +11,7 @@ use Rattle.calls.proofs.link_on.Goals as goal
 pub returns-then-number-ne-DONE : goal.returns-then-number-ne-DONE
 returns-then-number-ne-DONE c =
     let s = c.requires in
-    let both = refused _ s (link _ _) refl c.link_number-number.ensures c.if-number-ne-DONE.true c.plain.ensures in
-    record { value = both.0; t_after = both.1 }
+    refused _ s (link _ _) refl c.link_number-number.ensures c.if-number-ne-DONE.true c.plain.ensures
 
 pub of-round-requires : goal.of-round-requires
 of-round-requires c = sound_head _ c.requires
@@ -32,7 +31,7 @@ pub returns-then-state-eq-OFF : goal.returns-then-state-eq-OFF
 unfolding done figures_of view
 returns-then-state-eq-OFF c =
     let s = c.requires in
-    let both = plain_finished _ s (link _ _) refl c.link_number-number.ensures refl c.if-number-ne-DONE.false c.plain-then-state-eq-OFF.ensures
+    plain_finished _ s (link _ _) refl c.link_number-number.ensures refl c.if-number-ne-DONE.false c.plain-then-state-eq-OFF.ensures
     (c.set_puts.ensures ∙ rw (
       c.set_off.ensures,
       c.with_station.ensures,
@@ -41,8 +40,7 @@ returns-then-state-eq-OFF c =
       c.of-round.ensures,
       c.off_set-off.ensures,
       eq-eqb _ _ c.if-state-eq-OFF.true,
-    )) in
-    record { value = both.0; t_after = both.1 }
+    ))
 
 pub set_off-requires-2 : goal.set_off-requires-2
 set_off-requires-2 c =
@@ -56,12 +54,11 @@ pub returns : goal.returns
 unfolding done figures_of view
 returns c =
     let s = c.requires in
-    let both = plain_finished _ s (link _ _) refl c.link_number-number.ensures refl c.if-number-ne-DONE.false c.plain-2.ensures
+    plain_finished _ s (link _ _) refl c.link_number-number.ensures refl c.if-number-ne-DONE.false c.plain-2.ensures
     (c.set_puts-2.ensures ∙ rw (
       c.set_off-2.ensures,
       c.without_station.ensures,
       c.of-round.ensures,
       c.off_set-off.ensures,
       ne_eqb _ _ c.if-state-eq-OFF.false,
-    )) in
-    record { value = both.0; t_after = both.1 }
+    ))

@@ -20,8 +20,7 @@ round c = c.poll-round.ensures ∙ ap (λ r. with_poll (as_round r) c.args.stati
 pub returns-then-number-ne-DONE : goal.returns-then-number-ne-DONE
 returns-then-number-ne-DONE c =
     let s = c.requires in
-    let both = refused _ s (poll _) refl c.poll_number-number.ensures c.if-number-ne-DONE.true c.plain.ensures in
-    record { value = both.0; t_after = both.1 }
+    refused _ s (poll _) refl c.poll_number-number.ensures c.if-number-ne-DONE.true c.plain.ensures
 
 pub of-requires : goal.of-requires
 of-requires c = sound_head _ c.requires
@@ -47,6 +46,5 @@ returns c =
     let item = ap (λ r. r.item) (round at.After-poll-round) in
     let set = ap (λ r. r.polled) (round at.After-poll-round) in
     let figure = poll_figure _ _ c.stations.ensures item set c.heard_place-place.ensures c.place_figure.ensures in
-    let both = finished _ c.requires (poll _) refl c.poll_number-number.ensures c.if-number-ne-DONE.false figure
-    (c.set_polled.ensures ∙ ap (set_polled _) set) in
-    record { value = both.0; t_after = both.1 }
+    finished _ c.requires (poll _) refl c.poll_number-number.ensures c.if-number-ne-DONE.false figure
+    (c.set_polled.ensures ∙ ap (set_polled _) set)

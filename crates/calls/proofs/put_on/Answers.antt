@@ -12,8 +12,7 @@ use Rattle.calls.proofs.put_on.Goals as goal
 pub returns-then-number-ne-DONE : goal.returns-then-number-ne-DONE
 returns-then-number-ne-DONE c =
     let s = c.requires in
-    let both = refused _ s (put _ _) refl c.put_number-number.ensures c.if-number-ne-DONE.true c.plain.ensures in
-    record { value = both.0; t_after = both.1 }
+    refused _ s (put _ _) refl c.put_number-number.ensures c.if-number-ne-DONE.true c.plain.ensures
 
 pub of-requires : goal.of-requires
 of-requires c = sound_head _ c.requires
@@ -26,6 +25,5 @@ pub returns : goal.returns
 unfolding done figures_of view
 returns c =
     let round = c.put-round.ensures ∙ ap (λ r. with_put (as_round r) c.args.station (is_data c.args.sort)) c.«of».ensures in
-    let both = plain_finished _ c.requires (put _ _) refl c.put_number-number.ensures refl c.if-number-ne-DONE.false c.plain-2.ensures
-    (c.set_puts.ensures ∙ ap (puts_of _) round) in
-    record { value = both.0; t_after = both.1 }
+    plain_finished _ c.requires (put _ _) refl c.put_number-number.ensures refl c.if-number-ne-DONE.false c.plain-2.ensures
+    (c.set_puts.ensures ∙ ap (puts_of _) round)

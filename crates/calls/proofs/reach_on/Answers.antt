@@ -9,7 +9,7 @@ use Rattle.calls.proofs.reach_on.Goals as goal
 
 pub returns-then-number-ne-DONE : goal.returns-then-number-ne-DONE
 returns-then-number-ne-DONE c =
-    (refused _ c.requires (reach _) refl c.item_number-number.ensures c.if-number-ne-DONE.true c.plain.ensures).0
+    (refused _ c.requires (reach _) refl c.item_number-number.ensures c.if-number-ne-DONE.true c.plain.ensures).value
 
 pub reach_figure-requires : goal.reach_figure-requires
 unfolding needs view
@@ -21,4 +21,4 @@ pub returns : goal.returns
 unfolding figures_of
 returns c =
     let s = c.requires in
-    (finished _ s (reach _) refl c.item_number-number.ensures c.if-number-ne-DONE.false (ap figure_reply c.reach_figure.ensures) refl).0
+    (finished _ s (reach _) refl c.item_number-number.ensures c.if-number-ne-DONE.false (ap figure_reply c.reach_figure.ensures) refl).value

@@ -6,7 +6,7 @@ use Rattle.layout.specs.View.{view}
 use Rattle.layout.proofs.Soundness.{sound_head}
 use Rattle.numbers.proofs.Refusals.{is_kind, is_change}
 use Rattle.closing.specs.Closing.{OfKind}
-use Rattle.closing.proofs.Answers.{not-spent, closes-with, value-is, not_last}
+use Rattle.closing.proofs.Answers.{not-spent, closes_with, value_is, not_last}
 use Rattle.closing.proofs.done_reply.Goals as goal
 use Rattle.closing.proofs.done_reply.Goals.{Else-k-eq-WRITE, Then-k-eq-WRITE}
 
@@ -21,7 +21,7 @@ unfolding view
 returns-then-k-eq-READ c =
     let pre = c.requires in
     c.done.ensures
-    ∙ closes-with _ (is_kind 1 c.kind-k.ensures c.if-k-eq-READ.true) pre.4 (value-is _ _ pre.3 c.value_at.ensures) pre.1 pre.2
+    ∙ closes_with _ (is_kind 1 c.kind-k.ensures c.if-k-eq-READ.true) pre.4 (value_is _ _ pre.3 c.value_at.ensures) pre.1 pre.2
 
 pub value-requires : goal.value-requires
 value-requires c = sound_head _ c.requires.0.0
@@ -44,7 +44,7 @@ unfolding view
 returns-then-k-eq-WRITE c =
     let at = goal.at.returns-then-k-eq-WRITE c in
     let pre = c.requires in
-    c.done-then-k-eq-WRITE.ensures ∙ closes-with _ (writes at.Then-k-eq-WRITE) pre.4 c.value.ensures (c.next.ensures ∙ ap (λ x. x + 1) pre.1) pre.2
+    c.done-then-k-eq-WRITE.ensures ∙ closes_with _ (writes at.Then-k-eq-WRITE) pre.4 c.value.ensures (c.next.ensures ∙ ap (λ x. x + 1) pre.1) pre.2
 
 pub value_at-requires-2 : goal.value_at-requires-2
 value_at-requires-2 c = c.requires.3.1
@@ -59,4 +59,4 @@ returns c =
     let at = goal.at.returns c in
     let pre = c.requires in
     c.done-2.ensures
-    ∙ closes-with _ (changes at.Else-k-eq-WRITE) pre.4 (value-is _ _ pre.3 c.value_at-2.ensures) pre.1 (c.next-2.ensures ∙ ap (λ x. x + 1) pre.2)
+    ∙ closes_with _ (changes at.Else-k-eq-WRITE) pre.4 (value_is _ _ pre.3 c.value_at-2.ensures) pre.1 (c.next-2.ensures ∙ ap (λ x. x + 1) pre.2)

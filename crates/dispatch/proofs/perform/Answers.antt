@@ -105,9 +105,8 @@ unfolding calls_of
 returns-in-1 c =
     let at = goal.at.returns-in-1 c in
     let x = c.ospreyscreen_lay in
-    let both = performed _ (called at.Else-arguments-frame_length 1 c.in-1.is ∙ rw (c.argument.ensures, c.argument-in-1.ensures, c.u64_at.ensures))
-    x.ensures.value x.ensures.table_after in
-    record { value = both.0; table_after = both.1 }
+    performed _ (called at.Else-arguments-frame_length 1 c.in-1.is ∙ rw (c.argument.ensures, c.argument-in-1.ensures, c.u64_at.ensures))
+    x.ensures.value x.ensures.table_after
 
 pub returns-in-2 : goal.returns-in-2
 unfolding calls_of
@@ -115,8 +114,7 @@ returns-in-2 c =
     let at = goal.at.returns-in-2 c in
     let x = c.ospreyscreen_open_read in
     let call = called at.Else-arguments-frame_length 2 c.in-2.is ∙ rw c.argument-in-2.ensures in
-    let both = performed _ call x.ensures.value x.ensures.table_after in
-    record { value = both.0; table_after = both.1 }
+    performed _ call x.ensures.value x.ensures.table_after
 
 pub returns-in-3 : goal.returns-in-3
 unfolding calls_of
@@ -124,8 +122,7 @@ returns-in-3 c =
     let at = goal.at.returns-in-3 c in
     let x = c.ospreyscreen_open_write in
     let call = called at.Else-arguments-frame_length 3 c.in-3.is ∙ rw (c.argument-in-3.ensures, c.u64_at-in-3.ensures) in
-    let both = performed _ call x.ensures.value x.ensures.table_after in
-    record { value = both.0; table_after = both.1 }
+    performed _ call x.ensures.value x.ensures.table_after
 
 pub returns-in-4 : goal.returns-in-4
 unfolding calls_of
@@ -133,8 +130,7 @@ returns-in-4 c =
     let at = goal.at.returns-in-4 c in
     let x = c.ospreyscreen_open_change in
     let call = called at.Else-arguments-frame_length 4 c.in-4.is ∙ rw c.argument-in-4.ensures in
-    let both = performed _ call x.ensures.value x.ensures.table_after in
-    record { value = both.0; table_after = both.1 }
+    performed _ call x.ensures.value x.ensures.table_after
 
 pub returns-in-5 : goal.returns-in-5
 unfolding calls_of
@@ -142,8 +138,7 @@ returns-in-5 c =
     let at = goal.at.returns-in-5 c in
     let x = c.ospreyscreen_poll in
     let call = called at.Else-arguments-frame_length 5 c.in-5.is ∙ rw c.argument-in-5.ensures in
-    let both = performed _ call x.ensures.value x.ensures.table_after in
-    record { value = both.0; table_after = both.1 }
+    performed _ call x.ensures.value x.ensures.table_after
 
 pub returns-in-6 : goal.returns-in-6
 unfolding calls_of
@@ -151,8 +146,7 @@ returns-in-6 c =
     let at = goal.at.returns-in-6 c in
     let x = c.ospreyscreen_put in
     let call = called at.Else-arguments-frame_length 6 c.in-6.is ∙ rw (c.argument-in-6.ensures, c.argument-in-6-2.ensures) in
-    let both = performed _ call x.ensures.value x.ensures.table_after in
-    record { value = both.0; table_after = both.1 }
+    performed _ call x.ensures.value x.ensures.table_after
 
 pub returns-in-7 : goal.returns-in-7
 unfolding calls_of
@@ -160,8 +154,7 @@ returns-in-7 c =
     let at = goal.at.returns-in-7 c in
     let x = c.ospreyscreen_commit in
     let call = called at.Else-arguments-frame_length 7 c.in-7.is in
-    let both = performed _ call x.ensures.value x.ensures.table_after in
-    record { value = both.0; table_after = both.1 }
+    performed _ call x.ensures.value x.ensures.table_after
 
 pub returns-in-8 : goal.returns-in-8
 unfolding calls_of
@@ -169,8 +162,7 @@ returns-in-8 c =
     let at = goal.at.returns-in-8 c in
     let x = c.ospreyscreen_abandon in
     let call = called at.Else-arguments-frame_length 8 c.in-8.is in
-    let both = performed _ call x.ensures.value x.ensures.table_after in
-    record { value = both.0; table_after = both.1 }
+    performed _ call x.ensures.value x.ensures.table_after
 
 pub returns-in-9 : goal.returns-in-9
 unfolding calls_of
@@ -178,8 +170,7 @@ returns-in-9 c =
     let at = goal.at.returns-in-9 c in
     let x = c.ospreyscreen_link in
     let call = called at.Else-arguments-frame_length 9 c.in-9.is ∙ rw (c.argument-in-9.ensures, c.argument-in-9-2.ensures) in
-    let both = performed _ call x.ensures.value x.ensures.table_after in
-    record { value = both.0; table_after = both.1 }
+    performed _ call x.ensures.value x.ensures.table_after
 
 pub returns-in-10 : goal.returns-in-10
 unfolding calls_of
@@ -187,16 +178,14 @@ returns-in-10 c =
     let at = goal.at.returns-in-10 c in
     let x = c.ospreyscreen_reach in
     let call = called at.Else-arguments-frame_length 10 c.in-10.is ∙ rw c.argument-in-10.ensures in
-    let both = performed _ call x.ensures (sym (steps.reach_changes_nothing _ _)) in
-    record { value = both.0; table_after = both.1 }
+    performed _ call x.ensures (sym (steps.reach_changes_nothing _ _))
 
 pub returns-in-11 : goal.returns-in-11
 unfolding calls_of
 returns-in-11 c =
     let at = goal.at.returns-in-11 c in
     let call = called at.Else-arguments-frame_length 11 c.in-11.is in
-    let both = performed _ call c.ospreyscreen_diagnose.ensures (sym (steps.diagnose_changes_nothing _)) in
-    record { value = both.0; table_after = both.1 }
+    performed _ call c.ospreyscreen_diagnose.ensures (sym (steps.diagnose_changes_nothing _))
 
 pub returns-in-12 : goal.returns-in-12
 unfolding calls_of
@@ -204,8 +193,7 @@ returns-in-12 c =
     let at = goal.at.returns-in-12 c in
     let x = c.ospreyscreen_plan in
     let call = called at.Else-arguments-frame_length 12 c.in-12.is ∙ rw c.argument-in-12.ensures in
-    let both = performed _ call x.ensures (sym (steps.plan_changes_nothing _ _)) in
-    record { value = both.0; table_after = both.1 }
+    performed _ call x.ensures (sym (steps.plan_changes_nothing _ _))
 
 pub returns-in_default : goal.returns-in_default
 returns-in_default c =

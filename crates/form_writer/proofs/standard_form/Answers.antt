@@ -1,7 +1,7 @@
 use mathlib.Core.Path.{sym, ◌∙◌}
 use native.Mathlib.Omega.{arith}
 use borrow.Author.Tests.{not-true, not-false}
-use Rattle.form_writer.proofs.Answers.{not_listed, false-configuration, formed}
+use Rattle.form_writer.proofs.Answers.{not_listed, false_configuration, formed}
 use Rattle.form_writer.proofs.standard_form.Goals as goal
 
 pub returns : goal.returns
@@ -9,31 +9,27 @@ returns c = let some = c.if-n-eq0.false in
     let answer = formed _ _ _ (omega (arith, some)) c.if-n-gt16.false c.if-out-ne-CONFIG_SIZE.false
     (sym c.is_valid.ensures ∙ not-false _ c.if-not-is_valid.false-raw) in
     record {
-      value = answer.0;
-      out_after = c.put_config_bytes.ensures ∙ rw c.form_of.ensures answer.1;
+      value = answer.value;
+      out_after = c.put_config_bytes.ensures ∙ rw c.form_of.ensures answer.out_after;
     }
 
 pub returns-then-n-eq0 : goal.returns-then-n-eq0
 returns-then-n-eq0 c =
-    let both = not_listed _ _ _ (λ h. omega (arith, h.0, c.if-n-eq0.true)) in
-    record { value = both.0; out_after = both.1 }
+    not_listed _ _ _ (λ h. omega (arith, h.0, c.if-n-eq0.true))
 
 pub returns-then-n-gt16 : goal.returns-then-n-gt16
 returns-then-n-gt16 c =
-    let both = not_listed _ _ _ (λ h. omega (arith, h.1, c.if-n-gt16.true)) in
-    record { value = both.0; out_after = both.1 }
+    not_listed _ _ _ (λ h. omega (arith, h.1, c.if-n-gt16.true))
 
 pub returns-then-out-ne-CONFIG_SIZE : goal.returns-then-out-ne-CONFIG_SIZE
 returns-then-out-ne-CONFIG_SIZE c =
-    let both = not_listed _ _ _ (λ h. c.if-out-ne-CONFIG_SIZE.true h.2) in
-    record { value = both.0; out_after = both.1 }
+    not_listed _ _ _ (λ h. c.if-out-ne-CONFIG_SIZE.true h.2)
 
 pub returns-then-not-is_valid : goal.returns-then-not-is_valid
 returns-then-not-is_valid c =
     let some = c.if-n-eq0.false in
-    let both = false-configuration _ _ _ (omega (arith, some)) c.if-n-gt16.false c.if-out-ne-CONFIG_SIZE.false
-    (sym c.is_valid.ensures ∙ not-true _ c.if-not-is_valid.true-raw) in
-    record { value = both.0; out_after = both.1 }
+    false_configuration _ _ _ (omega (arith, some)) c.if-n-gt16.false c.if-out-ne-CONFIG_SIZE.false
+    (sym c.is_valid.ensures ∙ not-true _ c.if-not-is_valid.true-raw)
 
 pub form_of-requires : goal.form_of-requires
 form_of-requires c =

@@ -12,15 +12,18 @@ use Rattle.newest.proofs.walk.Goals as goal
 
 -- what the walk ends with answers both searches
 answers : (t : List ℕ) (n item set : ℕ) {o : Option Walked} → o ≡ along (turn t n item) none set n
-    → (o ≡ walk (copies_of t n item) set n)
-    × (walked_version o ≡ version_station (copies_of t n item) set n)
-    × (walked_generation o ≡ generation_station (copies_of t n item) set n)
+    → record {
+      walked : o ≡ walk (copies_of t n item) set n;
+      version : walked_version o ≡ version_station (copies_of t n item) set n;
+      generation : walked_generation o ≡ generation_station (copies_of t n item) set n;
+    }
 answers t n item set e =
-    let is_walk = e ∙ walk_along (copies_of t n item) set n in (
-      is_walk,
-      ap walked_version is_walk ∙ one_walk.version (copies_of t n item) set n,
-      ap walked_generation is_walk ∙ one_walk.generation (copies_of t n item) set n,
-    )
+    let is_walk = e ∙ walk_along (copies_of t n item) set n in
+    record {
+      walked = is_walk;
+      version = ap walked_version is_walk ∙ one_walk.version (copies_of t n item) set n;
+      generation = ap walked_generation is_walk ∙ one_walk.generation (copies_of t n item) set n;
+    }
 
 pub onward-newest-requires : goal.onward-newest-requires
 onward-newest-requires c = (c.requires, c.if-n-s.false)
@@ -35,8 +38,7 @@ loop-rest-init c = left_start _ _ _ _ c.ranges.set.fits
 
 pub returns-then-n-s : goal.returns-then-n-s
 returns-then-n-s c =
-    let found = answers _ _ _ _ (left_past c.loop-rest.invariant c.lowest-s.ensures c.if-n-s.true) in
-    record { walked = found.0; version = found.1; generation = found.2 }
+    answers _ _ _ _ (left_past c.loop-rest.invariant c.lowest-s.ensures c.if-n-s.true)
 
 pub loop-rest-smaller : goal.loop-rest-smaller
 loop-rest-smaller c =
@@ -44,5 +46,4 @@ loop-rest-smaller c =
 
 pub returns : goal.returns
 returns c =
-    let found = answers _ _ _ _ (left_done c.loop-rest.invariant c.loop-rest-test.false) in
-    record { walked = found.0; version = found.1; generation = found.2 }
+    answers _ _ _ _ (left_done c.loop-rest.invariant c.loop-rest-test.false)

@@ -9,8 +9,7 @@ use Rattle.openings.proofs.abandon_on.Goals as goal
 pub returns-then-number-ne-DONE : goal.returns-then-number-ne-DONE
 returns-then-number-ne-DONE c =
     let s = c.requires in
-    let both = refused _ s abandon refl c.idle_number-number.ensures c.if-number-ne-DONE.true c.plain.ensures in
-    record { value = both.0; t_after = both.1 }
+    refused _ s abandon refl c.idle_number-number.ensures c.if-number-ne-DONE.true c.plain.ensures
 
 pub set_round-requires : goal.set_round-requires
 set_round-requires c = sound_head _ c.requires
@@ -19,5 +18,4 @@ pub returns : goal.returns
 unfolding done figures_of
 returns c =
     let s = c.requires in
-    let both = plain_finished _ s abandon refl c.idle_number-number.ensures refl c.if-number-ne-DONE.false c.plain-2.ensures c.set_round.ensures in
-    record { value = both.0; t_after = both.1 }
+    plain_finished _ s abandon refl c.idle_number-number.ensures refl c.if-number-ne-DONE.false c.plain-2.ensures c.set_round.ensures

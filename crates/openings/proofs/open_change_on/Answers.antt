@@ -12,8 +12,7 @@ use Rattle.openings.proofs.open_change_on.Goals as goal
 pub returns-then-number-ne-DONE : goal.returns-then-number-ne-DONE
 returns-then-number-ne-DONE c =
     let s = c.requires in
-    let both = refused _ s (open_change _ _) refl c.open_change_number-number.ensures c.if-number-ne-DONE.true c.plain.ensures in
-    record { value = both.0; t_after = both.1 }
+    refused _ s (open_change _ _) refl c.open_change_number-number.ensures c.if-number-ne-DONE.true c.plain.ensures
 
 pub overflow_cast-i : goal.overflow_cast-i
 unfolding needs
@@ -35,6 +34,5 @@ unfolding done figures_of needs
 returns c =
     let e = c.open_change_number-number.ensures in
     let valid = (promise.valid_exactly _ _).1 (shown _ c.requires (open_change _ _) refl e c.if-number-ne-DONE.false).1.1.0 in
-    let both = plain_finished _ c.requires (open_change _ _) refl e refl c.if-number-ne-DONE.false c.plain-2.ensures
-    (c.set_round.ensures ∙ rw (c.form_of.ensures, form_any _ _ valid)) in
-    record { value = both.0; t_after = both.1 }
+    plain_finished _ c.requires (open_change _ _) refl e refl c.if-number-ne-DONE.false c.plain-2.ensures
+    (c.set_round.ensures ∙ rw (c.form_of.ensures, form_any _ _ valid))

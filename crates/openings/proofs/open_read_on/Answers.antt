@@ -10,8 +10,7 @@ use Rattle.openings.proofs.open_read_on.Goals as goal
 pub returns-then-number-ne-DONE : goal.returns-then-number-ne-DONE
 returns-then-number-ne-DONE c =
     let s = c.requires in
-    let both = refused _ s (open_read _) refl c.open_number-number.ensures c.if-number-ne-DONE.true c.plain.ensures in
-    record { value = both.0; t_after = both.1 }
+    refused _ s (open_read _) refl c.open_number-number.ensures c.if-number-ne-DONE.true c.plain.ensures
 
 pub overflow_cast-i : goal.overflow_cast-i
 unfolding needs
@@ -26,5 +25,4 @@ pub returns : goal.returns
 unfolding done figures_of
 returns c =
     let s = c.requires in
-    let both = plain_finished _ s (open_read _) refl c.open_number-number.ensures refl c.if-number-ne-DONE.false c.plain-2.ensures c.set_round.ensures in
-    record { value = both.0; t_after = both.1 }
+    plain_finished _ s (open_read _) refl c.open_number-number.ensures refl c.if-number-ne-DONE.false c.plain-2.ensures c.set_round.ensures

@@ -12,8 +12,7 @@ pub returns-then-number-ne-DONE : goal.returns-then-number-ne-DONE
 returns-then-number-ne-DONE c =
     let s = c.requires in
     let e = c.open_number-number.ensures ∙ write_opens (view _) _ c.args.value in
-    let both = refused _ s (open_write _ _) refl e c.if-number-ne-DONE.true c.plain.ensures in
-    record { value = both.0; t_after = both.1 }
+    refused _ s (open_write _ _) refl e c.if-number-ne-DONE.true c.plain.ensures
 
 pub overflow_cast-i : goal.overflow_cast-i
 unfolding needs
@@ -30,5 +29,4 @@ unfolding done figures_of
 returns c =
     let s = c.requires in
     let e = c.open_number-number.ensures ∙ write_opens (view _) _ c.args.value in
-    let both = plain_finished _ s (open_write _ _) refl e refl c.if-number-ne-DONE.false c.plain-2.ensures c.set_round.ensures in
-    record { value = both.0; t_after = both.1 }
+    plain_finished _ s (open_write _ _) refl e refl c.if-number-ne-DONE.false c.plain-2.ensures c.set_round.ensures

@@ -14,8 +14,7 @@ use Rattle.ospreyscreen.proofs.ospreyscreen_lay.Goals.{Else-number-ne-DONE}
 pub returns-then-number-ne-DONE : goal.returns-then-number-ne-DONE
 returns-then-number-ne-DONE c =
     let value = c.args.value in
-    let both = by_refusal _ (lay _ _ value _) (c.lay_number-number.ensures ∙ lay_number_is _ _ _ value _) c.if-number-ne-DONE.true c.plain.ensures in
-    record { value = both.0; table_after = both.1 }
+    by_refusal _ (lay _ _ value _) (c.lay_number-number.ensures ∙ lay_number_is _ _ _ value _) c.if-number-ne-DONE.true c.plain.ensures
 
 -- the call is done
 allowed : (c : Else-number-ne-DONE)
@@ -38,6 +37,5 @@ returns c =
     let at = goal.at.returns c in
     let value = c.args.value in
     let valid = lay_valid _ _ _ _ _ (allowed at.Else-number-ne-DONE) in
-    let both = by_plain _ (lay _ _ value _) (c.lay_number-number.ensures ∙ lay_number_is _ _ _ value _) refl c.if-number-ne-DONE.false c.plain-2.ensures
-    (c.lay_bytes.ensures ∙ rw (c.form_of-form.ensures, form_any _ _ valid)) in
-    record { value = both.0; table_after = both.1 }
+    by_plain _ (lay _ _ value _) (c.lay_number-number.ensures ∙ lay_number_is _ _ _ value _) refl c.if-number-ne-DONE.false c.plain-2.ensures
+    (c.lay_bytes.ensures ∙ rw (c.form_of-form.ensures, form_any _ _ valid))

@@ -5,8 +5,7 @@ use Rattle.ospreyscreen.proofs.ospreyscreen_poll.Goals as goal
 
 pub returns-then-not-is_sound : goal.returns-then-not-is_sound
 returns-then-not-is_sound c =
-    let both = unsound _ c.is_sound.ensures (poll _) refl c.if-not-is_sound.true-raw c.plain.ensures in
-    record { value = both.0; table_after = both.1 }
+    unsound _ c.is_sound.ensures (poll _) refl c.if-not-is_sound.true-raw c.plain.ensures
 
 pub poll_on-requires : goal.poll_on-requires
 poll_on-requires c = is_sound_lem _ c.is_sound.ensures c.if-not-is_sound.false-raw

@@ -26,7 +26,7 @@ in_table c = copies_in_table _ c.requires c.stations-n.ensures (there c)
 pub returns-then-number-ne-DONE : goal.returns-then-number-ne-DONE
 returns-then-number-ne-DONE c =
     (refused _ c.requires (plan _) refl (no_item_lem _ _ c.item_number-number.ensures c.if-number-ne-DONE.true) c.if-number-ne-DONE.true
-    c.plain.ensures).0
+    c.plain.ensures).value
 
 pub stations-n-requires : goal.stations-n-requires
 stations-n-requires c = sound_head _ c.requires
@@ -44,7 +44,7 @@ returns-in_default c =
     let at = goal.at.returns-in_default c in
     let number = unheard _ c.requires _ (there at.After-on_bus-on) c.stations-n.ensures c.on_bus-on.ensures c.in_default.ensures in
     (refused _ c.requires (plan _) refl number (omega arith)
-    c.plain-in_default.ensures).0
+    c.plain-in_default.ensures).value
 
 pub config_found-requires : goal.config_found-requires
 config_found-requires c = (in_table (goal.at.config_found-requires c).After-on_bus-on, generation_below _ _ _ c.in-After.ensures.2)
@@ -58,4 +58,4 @@ returns c =
     let newest = c.in-After.newest in
     let config = c.config_found.ensures in
     (finished _ s (plan _) refl (heard _ s _ (there at.After-on_bus-on) n on newest c.in-After.ensures config c.puts_needed.ensures) refl
-    (figures _ s _ (there at.After-on_bus-on) n on newest c.in-After.ensures config c.puts_needed.ensures) refl).0
+    (figures _ s _ (there at.After-on_bus-on) n on newest c.in-After.ensures config c.puts_needed.ensures) refl).value

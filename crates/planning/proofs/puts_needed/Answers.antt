@@ -13,8 +13,8 @@ pub overflow_add-puts : goal.overflow_add-puts
 overflow_add-puts c = omega (arith, count_fits c.loop-rest.invariant.0)
 
 -- the position after a station is taken
-stepped : (c : After-with_station-written) → let turned = c in
-    Position turned.args.on (turned.loop-rest.puts + 1) c.without_lowest-rest.result c.with_station-written.result
+stepped : (c : After-with_station-written)
+    → Position c.args.on (c.loop-rest.puts + 1) c.without_lowest-rest.result c.with_station-written.result
 stepped c =
     turn c.loop-rest.invariant.0 c.loop-rest-test.true c.lowest-s.ensures c.without_lowest-rest.ensures c.with_station-written.ensures
 

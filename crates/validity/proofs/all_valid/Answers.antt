@@ -35,8 +35,8 @@ pub config_ok-requires : goal.config_ok-requires
 config_ok-requires c = let h = room (goal.at.config_ok-requires c).In-loop-k in search rules
 
 -- what the test of configuration k says
-tested : (c : After-config_ok) → let turn = c in let a = turn.args in
-    c.config_ok.result ≡ valid_at a.n a.bytes.now (a.at + a.stride * turn.loop-k.k)
+tested : (c : After-config_ok) → let a = c.args in
+    c.config_ok.result ≡ valid_at a.n a.bytes.now (a.at + a.stride * c.loop-k.k)
 tested c = rw (add-sub_cancel_left) at c.config_ok.ensures
 
 pub returns-then-not-config_ok : goal.returns-then-not-config_ok

@@ -1,4 +1,3 @@
--- At a turn the puts of the stations taken have taken effect, and those of the stations left are to come.
 use native.Mathlib.Omega.{arith}
 use borrow.Author.Rules.{rules}
 use Prim.Native.Nat.{◌+◌, ◌≤◌}

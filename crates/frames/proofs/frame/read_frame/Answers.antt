@@ -11,7 +11,7 @@ use Rattle.frames.proofs.Reading.{no_frame_read, behind, frame_read, false_digit
 use Rattle.frames.proofs.frame.read_frame.Goals as goal
 use Rattle.frames.proofs.frame.read_frame.Goals.{After-frame_length-n, After-read_bytes, Else-n-eq0}
 
--- the line, and the length that its call byte's frames have
+-- the length is that of the call byte's frames, and no frame is longer
 n_is : (c : After-frame_length-n) → c.frame_length-n.result ≡ frame_length (call_byte c.args.line.now)
 n_is c = c.frame_length-n.ensures ∙ ap frame_length c.requires.0
 
@@ -31,8 +31,7 @@ digits_read c some is =
 pub returns-then-n-eq0 : goal.returns-then-n-eq0
 returns-then-n-eq0 c =
     let is = n_is (goal.at.returns-then-n-eq0 c).After-frame_length-n in
-    let both = no_frame_read c.args.line.now _ (λ f. let h = f.has_call in omega (arith, is)) in
-    record { value = both.0; leads = both.1 }
+    no_frame_read c.args.line.now _ (λ f. let h = f.has_call in omega (arith, is))
 
 pub overflow_mul-n : goal.overflow_mul-n
 overflow_mul-n c = omega (arith, n_le (goal.at.overflow_mul-n c).After-frame_length-n)
@@ -40,8 +39,7 @@ overflow_mul-n c = omega (arith, n_le (goal.at.overflow_mul-n c).After-frame_len
 pub returns-then-line-n : goal.returns-then-line-n
 returns-then-line-n c =
     let is = n_is (goal.at.returns-then-line-n c).After-frame_length-n in
-    let both = no_frame_read c.args.line.now _ (λ f. c.if-line-n.true (f.its_length ∙ ap (λ n. 2 * n) (sym is))) in
-    record { value = both.0; leads = both.1 }
+    no_frame_read c.args.line.now _ (λ f. c.if-line-n.true (f.its_length ∙ ap (λ n. 2 * n) (sym is)))
 
 pub read_bytes-requires : goal.read_bytes-requires
 read_bytes-requires c =
@@ -53,8 +51,7 @@ returns-then-not-read_bytes c =
     let is = n_is at.After-frame_length-n in
     let some = has at.Else-n-eq0 in
     let failed = sym (digits_read at.After-read_bytes some is) ∙ not-true _ c.if-not-read_bytes.true-raw in
-    let both = false_digit_read c.args.line.now _ some is c.if-line-n.false _ failed in
-    record { value = both.0; leads = both.1 }
+    false_digit_read c.args.line.now _ some is c.if-line-n.false _ failed
 
 pub returns : goal.returns
 returns c =
@@ -65,4 +62,4 @@ returns c =
     let whole = behind c.args.line.now _ some is c.if-line-n.false in
     let leads = rw whole at (c.read_bytes.ensures.leads all) in
     let read = frame_read c.args.line.now _ some is c.if-line-n.false _ (sym (digits_read at.After-read_bytes some is) ∙ all) leads in
-    record { value = rw c.requires.0 read.0; leads = read.1 }
+    record { value = rw c.requires.0 read.value; leads = read.leads }
