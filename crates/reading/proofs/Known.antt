@@ -1,8 +1,9 @@
 -- Known bytes, moved one piece after the other.
 use Rattle.std.proofs.Common.{◌≡◌, true, false, Option, Some, None, Result, Ok, Err, OnOk, is_err, IfSome}
-use Rattle.std.proofs.Common.{List, [], ◌++◌, ℕ, ◌+◌, ◌-◌, ◌≤◌, length, take, refl, sym, ap, ◌∙◌, append_assoc, append-nil, arith}
+use Rattle.std.proofs.Common.{List, [], ◌++◌, ℕ, ◌+◌, ◌-◌, ◌≤◌, length, take, sym, ap, ◌∙◌, append-nil, arith}
 use lib.Seq.{take-add}
-use Rattle.std.specs.Io.KnownBytes.{Appends, Consumes, IsAtEnd}
+use Rattle.std.specs.Io.KnownBytes.{Appends, IsAtEnd}
+use Rattle.std.proofs.KnownBytes.{Appends-nil, Appends-trans, Consumes-nil, Consumes-trans}
 use Rattle.runs.specs.Pieces.{InHand, start, after_piece, printed_by, printed_last}
 use Rattle.runs.specs.Run.{run}
 use Rattle.runs.proofs.Pieces.{after-append, printed-append, run_whole}
@@ -12,26 +13,6 @@ use Rattle.feeding.specs.declared.Fed.{Fed}
 use Rattle.reading.specs.Between.{AnswersPiece, Moved, RunSoFar}
 use Rattle.reading.specs.declared.AfterRead.{AfterRead}
 use Rattle.reading.proofs.Progress.{UpTo, in_front_lem}
-
-pub appends_none : (a : Option (List ℕ)) → Appends a a []
-appends_none None = tt
-appends_none (Some xs) = sym (append-nil xs)
-
-pub appends_more : (a b c : Option (List ℕ)) (x y : List ℕ) → Appends a b x → Appends b c y → Appends a c (x ++ y)
-appends_more None b c x y h k = tt
-appends_more (Some xs) None c x y h k = absurd h
-appends_more (Some xs) (Some ys) None x y h k = absurd k
-appends_more (Some xs) (Some ys) (Some zs) x y h k = k ∙ ap (λ l. l ++ y) h ∙ append_assoc xs x y
-
-pub consumes_none : (a : Option (List ℕ)) → Consumes a a []
-consumes_none None = tt
-consumes_none (Some xs) = refl
-
-pub consumes_more : (a b c : Option (List ℕ)) (x y : List ℕ) → Consumes a b x → Consumes b c y → Consumes a c (x ++ y)
-consumes_more None b c x y h k = tt
-consumes_more (Some xs) None c x y h k = absurd h
-consumes_more (Some xs) (Some ys) None x y h k = absurd k
-consumes_more (Some xs) (Some ys) (Some zs) x y h k = h ∙ ap (λ l. x ++ l) k ∙ sym (append_assoc x y zs)
 
 -- what was fed into an empty output is at its front
 pub at_the_front : (piece table line out : List ℕ) (s : Fed) (table' line' out' : List ℕ) (r : Fed) → Takes piece table line out s table' line' out' r
@@ -56,7 +37,7 @@ printed_more h piece table line out s table' line' out' r t z so_far =
 
 pub written_none : (a : Option (List ℕ)) (h : InHand) → Appends a a (printed_by h [])
 unfolding printed_by
-written_none a h = appends_none a
+written_none a h = Appends-nil a
 
 -- what was sent is there
 pub sent : {E P : Type 0} (r : Result Unit E) → OnOk r P → is_err r ≡ false → P
@@ -67,13 +48,13 @@ pub written_more : (a b c : Option (List ℕ)) (h : InHand) (piece table line ou
     → Takes piece table line out s table' line' out' r → s.out ≡ 0 → UpTo h piece table line s
     → Appends a b (printed_by h (take s.at piece)) → Appends b c (take r.out out') → Appends a c (printed_by h (take r.at piece))
 written_more a b c h piece table line out s table' line' out' r t z so_far before last =
-    let w = appends_more a b c _ _ before last in
+    let w = Appends-trans a b c _ _ before last in
     rw (printed_more h piece table line out s table' line' out' r t z so_far) at w
 
 -- before the first read, and after one more
 pub run_none : (a p : Option (List ℕ)) (h : InHand) → h ≡ start → RunSoFar a a p p h
 unfolding after_piece printed_by
-run_none a p h e = record { all = []; taken = consumes_none a; written = appends_none p; state = e }
+run_none a p h e = record { all = []; taken = Consumes-nil a; written = Appends-nil p; state = e }
 
 pub run_more : (a b c p q r : Option (List ℕ)) (input table line : List ℕ) (s : AfterRead) (table' line' : List ℕ) (x : AfterRead)
     → RunSoFar a b p q (in_hand table s.used line s.len) → Moved b c q r (in_hand table s.used line s.len) input x.read
@@ -81,10 +62,10 @@ pub run_more : (a b c p q r : Option (List ℕ)) (input table line : List ℕ) (
 run_more a b c p q r input table line s table' line' x before moved answered whole =
     let last = take x.read input in
     let h = in_hand table s.used line s.len in
-    let w : Appends p r (printed_by start before.all ++ printed_by h last) = appends_more p q r _ _ before.written moved.written in
+    let w : Appends p r (printed_by start before.all ++ printed_by h last) = Appends-trans p q r _ _ before.written moved.written in
     record {
       all = before.all ++ last;
-      taken = consumes_more a b c _ _ before.taken moved.taken;
+      taken = Consumes-trans a b c _ _ before.taken moved.taken;
       written = rw (printed-append start before.all last, ← before.state) w;
       state = answered.to_its_end whole ∙ rw before.state (sym (after-append start before.all last));
     }
@@ -96,6 +77,6 @@ whole_run None b p q r h so_far ended last = tt
 whole_run (Some xs) None p q r h so_far ended last = absurd so_far.taken
 whole_run (Some xs) (Some ys) p q r h so_far ended last =
     let all : xs ≡ so_far.all = so_far.taken ∙ ap (λ l. so_far.all ++ l) ended ∙ append-nil so_far.all in
-    let w : Appends p r (printed_by start so_far.all ++ printed_last h.table h.line) = appends_more p q r _ _ so_far.written last in
+    let w : Appends p r (printed_by start so_far.all ++ printed_last h.table h.line) = Appends-trans p q r _ _ so_far.written last in
     let e : printed_by start so_far.all ++ printed_last h.table h.line ≡ run xs = rw (so_far.state, all) (run_whole so_far.all) in
     rw e at w

@@ -14,25 +14,8 @@ mod case;
 mod script;
 mod show;
 
-ghost use Rattle.std.specs.Prelude.{◌≤◌, IfOk, length};
-
 use std::io;
-use std::io::Read;
-
-// Reads until the buffer is full or the input ends, and returns how many bytes it put at the start of the buffer.
-fn read_full<R: Read>(from: &mut R, buf: &mut [u8]) -> io::Result<usize>
-    ensures { IfOk result (λ n. n ≤ length buf.new) }
-{
-    let mut done = 0;
-    while done < buf.len() {
-        let n = from.read(&mut buf[done..])?;
-        if n == 0 {
-            break;
-        }
-        done += n;
-    }
-    Ok(done)
-}
+use whole_input::read_full;
 
 fn main(rt: HostRuntime) -> io::Result<()> {
     let mut input = [0u8; 65536];
