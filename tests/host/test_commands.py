@@ -15,6 +15,8 @@ import sys
 import tempfile
 import unittest
 
+from test_votes_example import sets_in
+
 ROOT = pathlib.Path(__file__).resolve().parents[2]
 FRAMES = [sys.executable, str(ROOT / "tools" / "frames")]
 OSPREYSCREEN, RUNNER = "", ""
@@ -222,17 +224,6 @@ def replies_to(lines):
     """The words of the runner's replies to calls in words."""
     frames = output_of([*FRAMES, "encode"], "".join(line + "\n" for line in lines))
     return output_of([*FRAMES, "decode"], output_of([RUNNER], frames)).splitlines()
-
-
-def sets_in(lines):
-    """The sets of the read side and of the write side, without their digits."""
-    sides = []
-    for line in lines:
-        if line.startswith("a "):
-            sides.append([])
-        elif line.startswith("  "):
-            sides[-1].append(line[8:])
-    return tuple(sides)
 
 
 class Votes(Program):
