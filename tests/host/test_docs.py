@@ -255,8 +255,8 @@ class Names(unittest.TestCase):
                 self.assertEqual([word for word in cited if word not in words], [])
 
     def test_files(self):
-        # docs/PORT.md tells of names that there were.
-        for document in [it for it in DOCUMENTS if it.name != "PORT.md"]:
+        # These two tell of names that there were.
+        for document in [it for it in DOCUMENTS if it.name not in ("PORT.md", "DESIGN-PASS.md")]:
             with self.subTest(document=document.name):
                 self.assertEqual(missing_names(document), [])
 

@@ -1,4 +1,8 @@
-// The twelve calls by code.
+// The twelve calls with their numbers.
+ghost use Rattle.std.specs.Prelude.{◌≡◌};
+ghost use Rattle.rules.specs.Reply.{after, reply};
+ghost use Rattle.boundary_cases.specs.Made.{made};
+
 use ospreyscreen::{
     ospreyscreen_abandon, ospreyscreen_commit, ospreyscreen_diagnose, ospreyscreen_lay,
     ospreyscreen_link, ospreyscreen_open_change, ospreyscreen_open_read, ospreyscreen_open_write,
@@ -6,61 +10,42 @@ use ospreyscreen::{
 };
 use rules::Reply;
 
-// The codes of the calls.
-pub const LAY: u64 = 1;
-
-pub const READ: u64 = 2;
-
-pub const WRITE: u64 = 3;
-
-pub const CHANGE: u64 = 4;
-
-pub const POLL: u64 = 5;
-
-pub const PUT: u64 = 6;
-
-pub const COMMIT: u64 = 7;
-
-pub const ABANDON: u64 = 8;
-
-pub const LINK: u64 = 9;
-
-pub const REACH: u64 = 10;
-
-pub const DIAGNOSE: u64 = 11;
-
-pub const PLAN: u64 = 12;
-
-// The number for any other code.
-pub const UNKNOWN: u64 = 99;
-
-// The calls of the last seven codes.
-fn later(table: &mut [u8], code: u64, a: u64, b: u64) -> Reply {
-    match code {
-        PUT => ospreyscreen_put(table, a, b),
-        COMMIT => ospreyscreen_commit(table),
-        ABANDON => ospreyscreen_abandon(table),
-        LINK => ospreyscreen_link(table, a, b),
-        REACH => ospreyscreen_reach(table, a),
-        DIAGNOSE => ospreyscreen_diagnose(table),
-        PLAN => ospreyscreen_plan(table, a),
-        _ => Reply {
-            number: UNKNOWN,
-            first: 0,
-            second: 0,
-            third: 0,
-        },
-    }
+// One number alone is an item, or of a poll a station.
+#[derive(Clone, Copy)]
+pub enum Call {
+    Lay { n: u64, m: u64, value: u64 },
+    Read(u64),
+    Write { item: u64, value: u64 },
+    Change(u64),
+    Poll(u64),
+    Put { station: u64, sort: u64 },
+    Commit,
+    Abandon,
+    Link { station: u64, state: u64 },
+    Reach(u64),
+    Diagnose,
+    Plan(u64),
 }
 
-// The call of a code.
-pub fn call(table: &mut [u8], config: &[u8], code: u64, a: u64, b: u64, c: u64) -> Reply {
-    match code {
-        LAY => ospreyscreen_lay(table, a, b, c, config),
-        READ => ospreyscreen_open_read(table, a),
-        WRITE => ospreyscreen_open_write(table, a, b),
-        CHANGE => ospreyscreen_open_change(table, a, config),
-        POLL => ospreyscreen_poll(table, a),
-        _ => later(table, code, a, b),
+impl Call {
+    // Makes the call on the table; lay and change are lent the configuration.
+    pub fn make(self, table: &mut [u8], config: &[u8]) -> Reply
+        ensures value { result ≡ reply table.old (made self config.now) }
+        ensures table_after { table.new ≡ after table.old (made self config.now) }
+    {
+        match self {
+            Call::Lay { n, m, value } => ospreyscreen_lay(table, n, m, value, config),
+            Call::Read(item) => ospreyscreen_open_read(table, item),
+            Call::Write { item, value } => ospreyscreen_open_write(table, item, value),
+            Call::Change(item) => ospreyscreen_open_change(table, item, config),
+            Call::Poll(station) => ospreyscreen_poll(table, station),
+            Call::Put { station, sort } => ospreyscreen_put(table, station, sort),
+            Call::Commit => ospreyscreen_commit(table),
+            Call::Abandon => ospreyscreen_abandon(table),
+            Call::Link { station, state } => ospreyscreen_link(table, station, state),
+            Call::Reach(item) => ospreyscreen_reach(table, item),
+            Call::Diagnose => ospreyscreen_diagnose(table),
+            Call::Plan(item) => ospreyscreen_plan(table, item),
+        }
     }
 }

@@ -1,53 +1,97 @@
-// What is lent to the calls, and what is stored in it.
-ghost use Rattle.std.specs.Prelude.{◌≡◌, length};
+// What is lent to the calls, and the bytes that are kept.
+ghost use Rattle.std.specs.Prelude.{◌≡◌, ◌++◌, drop, replicate, take};
+ghost use Rattle.std.specs.Int.{to_le_bytes, w64};
 
-// How many bytes of the space, and how many of a configuration. Its sets, four to a number, 16 bits each, the first least significant:
-// the read sets at places 0 to 3 and 4 to 7, then the write sets. And how many bytes are kept.
+use crate::bytes::store;
+use std::alloc::{AllocError, Global};
+
+// How many bytes the one space has.
+const SPACE: usize = 30520;
+
+// The bytes of a configuration and one zero byte more, and how many of them are lent.
 #[derive(Clone, Copy)]
+pub struct Config {
+    bytes: [u8; 33],
+    length: usize,
+}
+
+impl Config {
+    // So many bytes of these read sets and write sets, at most four a side, 16 bits of a number each, the first least significant.
+    pub fn of(read: u64, write: u64, length: usize) -> Config
+        ensures bytes { result.bytes ≡ to_le_bytes w64 read ++ replicate 8 0 ++ to_le_bytes w64 write ++ replicate 9 0 }
+        ensures length { result.length ≡ length }
+    {
+        let mut bytes = [0; 33];
+        store(&mut bytes, 0, read);
+        store(&mut bytes, 16, write);
+        Config { bytes, length }
+    }
+
+    // Four sets more a side, at places 4 to 7.
+    pub fn add(&mut self, read: u64, write: u64)
+        ensures bytes { self.new.bytes ≡ take 8 self.old.bytes ++ to_le_bytes w64 read
+            ++ take 8 (drop 16 self.old.bytes) ++ to_le_bytes w64 write ++ drop 32 self.old.bytes }
+        ensures length { self.new.length ≡ self.old.length }
+    {
+        store(&mut self.bytes, 8, read);
+        store(&mut self.bytes, 24, write);
+    }
+
+    // The bytes that are lent, if there are so many.
+    pub fn lent(&self) -> Option<&[u8]> {
+        self.bytes.get(..self.length)
+    }
+}
+
+// Room for the bytes that are kept, and how many were kept last. Each copy stands at the start of the room, over the earlier ones.
+#[derive(Drop)]
+pub struct Kept {
+    room: Vec<u8>,
+    length: usize,
+}
+
+impl Kept {
+    fn copy(&mut self, table: &[u8]) {
+        if let Some(start) = self.room.as_mut_slice().get_mut(..table.len()) {
+            start.copy_from_slice(table);
+        }
+    }
+
+    // Whether the table is what was kept last.
+    pub fn is(&self, table: &[u8]) -> bool {
+        self.room.get(..self.length) == Some(table)
+    }
+}
+
+// The one space, how many of its bytes are lent as the table, the configuration, and what is kept.
+#[derive(Drop)]
 pub struct Lent {
-    pub len: usize,
-    pub config_len: usize,
-    pub sets: [u64; 4],
-    pub kept: usize,
+    pub space: Vec<u8>,
+    pub length: usize,
+    pub config: Config,
+    pub kept: Kept,
 }
 
-// Stores a byte, and returns the one that was there; nothing is done past the end.
-pub fn replace(table: &mut [u8], at: u64, byte: u64) -> u8 {
-    let at = at as usize;
-    if table.len() <= at {
-        return 0;
+impl Lent {
+    pub fn new(alloc: Global) -> Result<Lent, AllocError> {
+        Ok(Lent {
+            space: vec![in alloc; 7; SPACE]?,
+            length: 0,
+            config: Config::of(0, 0, 0),
+            kept: Kept {
+                room: vec![in alloc; 0; SPACE]?,
+                length: 0,
+            },
+        })
     }
-    let was = table[at];
-    table[at] = (byte % 256) as u8;
-    was
-}
 
-// Stores a number in eight bytes, the least significant first; nothing is done if they go past the end.
-pub fn store(table: &mut [u8], at: u64, number: u64) {
-    let at = at as usize;
-    if table.len() < 8 {
-        return;
+    // Keeps the table. While the space or the configuration has too few bytes, nothing is copied, and the number alone is kept.
+    pub fn keep(&mut self) {
+        if self.config.lent().is_some()
+            && let Some(table) = self.space.get(..self.length)
+        {
+            self.kept.copy(table);
+        }
+        self.kept.length = self.length;
     }
-    if table.len() - 8 < at {
-        return;
-    }
-    let mut rest = number;
-    let mut i = 0;
-    while i < 8 {
-        table[at + i] = (rest % 256) as u8;
-        rest = rest / 256;
-        i += 1;
-    }
-}
-
-// The configuration of these sets, and one zero byte more.
-pub fn config(sets: [u64; 4]) -> [u8; 33]
-    ensures { 33 ≡ length result }
-{
-    let mut bytes = [0u8; 33];
-    store(&mut bytes, 0, sets[0]);
-    store(&mut bytes, 8, sets[1]);
-    store(&mut bytes, 16, sets[2]);
-    store(&mut bytes, 24, sets[3]);
-    bytes
 }

@@ -4,7 +4,7 @@
 //
 // A line of `stdin` has a text, which is printed, and behind a bar calls with commas between them: a word and its numbers. A line with
 // text and calls is a case: its name, and the reply to each of its calls, a number and three figures. A line without calls is a
-// heading, and a line without text is set-up, whose replies are not printed.
+// heading, and a line without text is set-up, whose replies are not printed. An empty line prints nothing.
 //
 //     lay N M VALUE, read ITEM, write ITEM VALUE, change ITEM, poll STATION, put STATION SORT,
 //     commit, abandon, link STATION STATE, reach ITEM, diagnose, plan ITEM
@@ -38,23 +38,20 @@
 // Any other word gets the number 99, in a set-up too.
 #![tactic(auto)]
 
+mod bytes;
 mod call;
-mod kept;
 mod lent;
 mod perform;
-mod reading;
+mod reply;
 mod rows;
 mod script;
-mod show;
+mod step;
 mod writer;
 
 use std::io;
-use whole_input::read_full;
+use whole_input::{LIMIT, read_whole};
 
 fn main(rt: HostRuntime) -> io::Result<()> {
-    let mut input = [0u8; 65536];
-    let n = read_full(&mut rt.stdin(), &mut input)?;
-    let mut space = [7u8; 30520];
-    let mut room = [0u8; 30520];
-    script::run(&mut rt.stdout(), &input[..n], &mut space, &mut room)
+    let input = read_whole(rt.alloc(), &mut rt.stdin(), LIMIT)?;
+    script::run(rt.alloc(), &mut rt.stdout(), &input)
 }

@@ -1,177 +1,76 @@
-// What the words of the script do.
-use crate::call::{UNKNOWN, call};
-use crate::kept::{keep, same};
-use crate::lent::{Lent, config, replace, store};
-use crate::reading::{Call, code_of};
-use crate::rows::{damaged, eleven};
-use crate::show::{reply, truth};
+// What the steps of the script do.
+use crate::bytes::{replace, store};
+use crate::call::Call;
+use crate::lent::{Config, Lent};
+use crate::reply::{UNKNOWN, reply};
+use crate::rows::eleven;
+use crate::step::{Act, Step, UnknownWord};
 use crate::writer::form;
 use std::io;
 use std::io::Write;
 
-// The codes of the other words.
-const LEND: u64 = 13;
-
-const PAIRS: u64 = 14;
-
-const SETS: u64 = 15;
-
-const MORE: u64 = 16;
-
-const BYTE: u64 = 17;
-
-const NUMBER: u64 = 18;
-
-const KEEP: u64 = 19;
-
-const SAME: u64 = 20;
-
-const FORM: u64 = 21;
-
-const ELEVEN: u64 = 22;
-
-const THREE: u64 = 23;
-
-const FIFTEEN: u64 = 24;
-
 // The pair sets: 0003, 0005, 0006.
-const THE_PAIRS: u64 = 0x0006_0005_0003;
+const PAIRS: u64 = 0x0006_0005_0003;
 
-// One of the twelve calls; the reply is printed if it is to be shown, or if there is no such call.
+// Makes a call; the reply is printed if it is to be shown.
 fn call_shown<W: Write>(
     to: &mut W,
     table: &mut [u8],
     config: &[u8],
-    code: u64,
-    a: u64,
-    b: u64,
-    c: u64,
+    call: Call,
     shown: bool,
 ) -> io::Result<()> {
-    let r = call(table, config, code, a, b, c);
-    if shown || r.number == UNKNOWN {
+    let r = call.make(table, config);
+    if shown {
         reply(to, r)?;
     }
     Ok(())
 }
 
-// What a code does to the table.
+// Does what a step does on the table, or prints that its word is unknown; nothing if the space or the configuration has too few bytes.
 fn act<W: Write>(
     to: &mut W,
-    table: &mut [u8],
-    config: &[u8],
-    code: u64,
-    a: u64,
-    b: u64,
-    c: u64,
+    lent: &mut Lent,
+    what: Result<Act, UnknownWord>,
     shown: bool,
 ) -> io::Result<()> {
-    match code {
-        LEND | PAIRS | SETS | MORE | KEEP | SAME => {}
-        BYTE => {
-            replace(table, a, b);
+    let Some(table) = lent.space.as_mut_slice().get_mut(..lent.length) else {
+        return Ok(());
+    };
+    let Some(config) = lent.config.lent() else {
+        return Ok(());
+    };
+    match what {
+        Ok(Act::Call(call)) => call_shown(to, table, config, call, shown)?,
+        Ok(Act::Byte { at, value }) => {
+            replace(table, at, value);
         }
-        NUMBER => store(table, a, b),
-        FORM => form(to, a, config, b, shown)?,
-        ELEVEN => eleven(to, table)?,
-        THREE | FIFTEEN => damaged(to, table, config, code == THREE, a, b, c)?,
-        _ => call_shown(to, table, config, code, a, b, c, shown)?,
+        Ok(Act::Number { at, value }) => store(table, at, value),
+        Ok(Act::Same) if !shown => {}
+        Ok(Act::Same) => write!(to, "  {}", u8::from(lent.kept.is(table)))?,
+        Ok(Act::Form { n, length }) => form(to, n, config, length, shown)?,
+        Ok(Act::Eleven) => eleven(to, table)?,
+        Ok(Act::Damaged(damaged)) => damaged.run(to, table, config)?,
+        Err(UnknownWord) => reply(to, UNKNOWN)?,
     }
     Ok(())
 }
 
-// Whether the table is as it was kept, if that is to be shown.
-fn same_shown<W: Write>(
-    to: &mut W,
-    table: &[u8],
-    room: &[u8],
-    kept: usize,
-    shown: bool,
-) -> io::Result<()> {
-    if shown {
-        truth(to, same(table, room, kept))?;
-    }
-    Ok(())
-}
-
-// What a code does with the bytes that are kept, so many of the room.
-fn compare<W: Write>(
-    to: &mut W,
-    table: &[u8],
-    room: &mut [u8],
-    kept: usize,
-    code: u64,
-    shown: bool,
-) -> io::Result<()> {
-    match code {
-        KEEP => keep(table, room),
-        SAME => same_shown(to, table, room, kept, shown)?,
-        _ => {}
-    }
-    Ok(())
-}
-
-// What is lent, and how many bytes are kept, after a code.
-fn lent_after(lent: Lent, code: u64, numbers: [u64; 4]) -> Lent {
-    let mut next = lent;
-    match code {
-        LEND => {
-            next.len = numbers[1] as usize;
-        }
-        PAIRS => {
-            next.sets = [THE_PAIRS, 0, THE_PAIRS, 0];
-            next.config_len = numbers[1] as usize;
-        }
-        SETS => {
-            next.sets = [numbers[1], 0, numbers[2], 0];
-            next.config_len = 32;
-        }
-        MORE => {
-            next.sets[1] = numbers[1];
-            next.sets[3] = numbers[2];
-        }
-        KEEP => {
-            next.kept = lent.len;
-        }
-        _ => {}
-    }
-    next
-}
-
-// Does what a call says, once it is whole, on what is lent, and returns what is lent after it.
+// Does a step; its replies are printed if they are to be shown.
 pub fn perform<W: Write>(
     to: &mut W,
-    space: &mut [u8],
-    room: &mut [u8],
-    lent: Lent,
-    c: Call,
-    whole: bool,
+    lent: &mut Lent,
+    step: Result<Step, UnknownWord>,
     shown: bool,
-) -> io::Result<Lent> {
-    let code = code_of(c.word);
-    let len = lent.len;
-    let config_len = lent.config_len;
-    let sets = lent.sets;
-    let numbers = c.numbers;
-    if !whole {
-        return Ok(lent);
+) -> io::Result<()> {
+    match step {
+        Ok(Step::Lend { length }) => lent.length = length as usize,
+        Ok(Step::Pairs { length }) => lent.config = Config::of(PAIRS, PAIRS, length as usize),
+        Ok(Step::Sets { read, write }) => lent.config = Config::of(read, write, 32),
+        Ok(Step::More { read, write }) => lent.config.add(read, write),
+        Ok(Step::Keep) => lent.keep(),
+        Ok(Step::Act(what)) => act(to, lent, Ok(what), shown)?,
+        Err(UnknownWord) => act(to, lent, Err(UnknownWord), shown)?,
     }
-    if len <= space.len() {
-        if config_len <= 33 {
-            compare(to, &space[..len], room, lent.kept, code, shown)?;
-            let bytes = config(sets);
-            act(
-                to,
-                &mut space[..len],
-                &bytes[..config_len],
-                code,
-                numbers[1],
-                numbers[2],
-                numbers[3],
-                shown,
-            )?;
-            return Ok(lent_after(lent, code, numbers));
-        }
-    }
-    Ok(lent_after(lent, code, numbers))
+    Ok(())
 }

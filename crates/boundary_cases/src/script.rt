@@ -1,46 +1,55 @@
-// The script, byte by byte.
+// The script, line by line.
 use crate::lent::Lent;
 use crate::perform::perform;
-use crate::reading::Call;
+use crate::step::{Step, Written};
+use case_text::split_once;
+use std::alloc::Global;
 use std::io;
 use std::io::Write;
 
-// Does what the script says, in the space, with room for the bytes that are kept. `calls` says that the byte stands behind the bar of its line, and
-// `shown` that there is text before it.
-pub fn run<W: Write>(
+// Does the steps behind a bar, each up to its comma or its line's end; what neither closes is not done.
+fn steps<W: Write>(
+    alloc: Global,
     to: &mut W,
-    script: &[u8],
-    space: &mut [u8],
-    room: &mut [u8],
+    lent: &mut Lent,
+    text: &[u8],
+    shown: bool,
 ) -> io::Result<()> {
-    let mut lent = Lent {
-        len: 0,
-        config_len: 0,
-        sets: [0u64; 4],
-        kept: 0,
-    };
-    let mut call = Call {
-        word: 0,
-        at: 0,
-        numbers: [0u64; 4],
-    };
-    let mut calls = false;
-    let mut shown = false;
-    let mut i = 0;
-    while i < script.len() {
-        let b = script[i];
-        let bar = b == b'|';
-        let line_end = b == b'\n';
-        let call_end = line_end | (b == b',');
-        lent = perform(to, space, room, lent, call, calls & call_end, shown)?;
-        if (shown & line_end) | !(calls | bar | line_end) {
-            let printed = [b];
-            to.write_all(&printed)?;
+    for part in text.split_inclusive(|b| matches!(*b, b',' | b'\n')) {
+        if let [step @ .., b',' | b'\n'] = part {
+            let written = Written::read(alloc, step)?;
+            perform(to, lent, Step::try_from(&written), shown)?;
         }
-        call = call.after(calls & !call_end, b);
-        shown = !line_end & (shown | !(calls | bar));
-        calls = !line_end & (calls | bar);
-        i += 1;
+    }
+    Ok(())
+}
+
+// A case's name and its replies, or a set-up, whose name is empty.
+fn case<W: Write>(
+    alloc: Global,
+    to: &mut W,
+    lent: &mut Lent,
+    name: &[u8],
+    text: &[u8],
+) -> io::Result<()> {
+    let shown = !name.is_empty();
+    to.write_all(name)?;
+    steps(alloc, to, lent, text, shown)?;
+    if shown && text.ends_with(b"\n") {
+        to.write_all(b"\n")?;
+    }
+    Ok(())
+}
+
+// Does what the script says. A heading is printed as it is, and an empty line is not.
+pub fn run<W: Write>(alloc: Global, to: &mut W, script: &[u8]) -> io::Result<()> {
+    let mut lent = Lent::new(alloc)?;
+    for line in script.split_inclusive(|b| *b == b'\n') {
+        match split_once(line, b'|') {
+            Some((name, text)) => case(alloc, to, &mut lent, name, text)?,
+            None if line == b"\n".as_slice() => {}
+            None => to.write_all(line)?,
+        }
     }
     Ok(())
 }

@@ -1,46 +1,57 @@
--- Commit: its outcome is its reply, and what it stores.
-use mathlib.Core.Path.{◌≡◌, sym, ap, ◌∙◌}
+-- Commit: what its tests come to, and what it stores.
+use mathlib.Core.Path.{◌≡◌, refl, sym, ap, ◌∙◌}
 use mathlib.Core.List.{List}
 use Prim.Native.Nat.{ℕ}
-use borrow.Author.Tests.{ne_eqb}
-use Rattle.layout.specs.Fields.{stations, new_copy}
+use native.Mathlib.Omega.{arith}
+use Rattle.basics.proofs.Tests.{either}
+use Rattle.layout.specs.Fields.{Round, stations, round_of, new_copy}
 use Rattle.layout.specs.Updates.{put_copies, closed}
-use Rattle.layout.specs.View.{view}
-use Rattle.rounds.specs.Round.{round_in, as_round}
-use Rattle.rounds.specs.declared.round.Round.{Round}
-use Rattle.rules.specs.Calls.{commit}
-use Rattle.rules.specs.Rules.{number_of}
+use Rattle.layout.specs.View.{State, view}
+use Rattle.rules.specs.Calls.{abandon, commit, diagnose}
+use Rattle.rules.specs.Outcome.{refusal_number}
+use Rattle.rules.specs.Rules.{first, tests, is_idle, number_of}
 use Rattle.rules.specs.Figures.{closing, figures_of}
 use Rattle.rules.specs.After.{stores, done}
 use Rattle.rules.specs.Reply.{reply_of, reply, after}
-use Rattle.rules.specs.declared.Reply.{Reply}
-use Rattle.openings.proofs.Replies.{Answers}
+use Rattle.rules.specs.declared.Figures.{Figures}
+use Rattle.rules.specs.declared.Refusal.{Refusal}
+use Rattle.rules.proofs.Outcomes.{refusal_some, bare, shows, Answers, by_refusal}
 
-module _ (t : List ℕ) {r : Reply} (e : r ≡ reply t commit) where
-  commit_number : r.number ≡ number_of (view t) commit
+-- abandon's refusal is commit's, and diagnose's
+pub commit_asks : (v : State) (e : Refusal) → refusal_number e ≡ first (tests v abandon) → refusal_number e ≡ first (tests v commit)
+unfolding tests first
+commit_asks v e q =
+    either (is_idle v) (λ i. rw i at q ∙ rw i) (λ i. let none : refusal_number e ≡ 0 = rw i at q in absurd (omega (arith, refusal_some e)))
+
+pub diagnose_asks : (v : State) → first (tests v abandon) ≡ first (tests v diagnose)
+unfolding tests
+diagnose_asks v = refl
+
+-- a reply that is commit's, refused or done
+pub commit_refused : (t : List ℕ) (e : Refusal) → bare (refusal_number e) ≡ reply t commit → Answers t commit (bare (refusal_number e)) t
+unfolding reply_of
+commit_refused t e r = by_refusal t commit e (ap (λ x. x.number) r)
+
+module _ (t : List ℕ) {f : Figures} (e : shows f ≡ reply t commit) where
+  commit_number : 0 ≡ number_of (view t) commit
   unfolding reply_of
   commit_number = ap (λ x. x.number) e
 
-  pub commit_refused : (r.number ≡ 0 → ⊥) → Answers t commit r t
-  unfolding after
-  commit_refused h = record { value = e; table_after = rw (← commit_number, ne_eqb r.number 0 h) }
-
   -- what is stored are its figures and the round's target
-  stored_is : r.number ≡ 0
-      → new_copy r.second r.first r.third (view t).round.target ≡ stores (closing (view t) (view t).round.kind) (view t).round.target
+  stored_is : new_copy f.second f.first f.third (view t).round.target ≡ stores (closing (view t) (view t).round.kind) (view t).round.target
   unfolding reply_of figures_of
-  stored_is h =
-      let z : number_of (view t) commit ≡ 0 = sym commit_number ∙ h in
-      let f = closing (view t) (view t).round.kind in
-      let first : r.first ≡ f.first = ap (λ x. x.first) e ∙ rw z in
-      let second : r.second ≡ f.second = ap (λ x. x.second) e ∙ rw z in
-      let third : r.third ≡ f.third = ap (λ x. x.third) e ∙ rw z in
+  stored_is =
+      let z : number_of (view t) commit ≡ 0 = sym commit_number in
+      let c = closing (view t) (view t).round.kind in
+      let first : f.first ≡ c.first = ap (λ x. x.first) e ∙ rw z in
+      let second : f.second ≡ c.second = ap (λ x. x.second) e ∙ rw z in
+      let third : f.third ≡ c.third = ap (λ x. x.third) e ∙ rw z in
       λ i. new_copy (second i) (first i) (third i) (view t).round.target
 
   -- by the stations and the round that were read
-  pub commit_finished : {u : List ℕ} {n : ℕ} {round : Round} → r.number ≡ 0 → n ≡ stations t → round ≡ round_in t
-      → u ≡ closed (put_copies t n (as_round round) (new_copy r.second r.first r.third round.target) n) → Answers t commit r u
+  pub commit_finished : {u : List ℕ} {n : ℕ} {r : Round} → n ≡ stations t → r ≡ round_of t
+      → u ≡ closed (put_copies t n r (new_copy f.second f.first f.third r.target) n) → Answers t commit (shows f) u
   unfolding after done view
-  commit_finished h a b q =
-      let z : number_of (view t) commit ≡ 0 = sym commit_number ∙ h in
-      record { value = e; table_after = q ∙ rw (a, b, z, stored_is h) }
+  commit_finished a b q =
+      let z : number_of (view t) commit ≡ 0 = sym commit_number in
+      record { value = e; table_after = q ∙ rw (a, b, z, stored_is) }

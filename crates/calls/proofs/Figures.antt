@@ -4,7 +4,7 @@ use mathlib.Core.Bool.{Bool, true, false, cond}
 use mathlib.Core.List.{List}
 use Prim.Native.Nat.{ℕ}
 use Rattle.quorum.specs.Configurations.{place_figure, holds_write}
-use Rattle.quorum.specs.declared.Place.{Place}
+use Rattle.std.specs.Prelude.{Option}
 use Rattle.layout.specs.Fields.{stations, round_of, copies_of}
 use Rattle.layout.specs.Newest.{heard_place, hears}
 use Rattle.layout.specs.Rounds.{with_poll}
@@ -14,21 +14,15 @@ use Rattle.rounds.specs.Heard.{HasFound}
 use Rattle.rounds.proofs.Hearing.{config_is}
 use Rattle.rules.specs.Calls.{poll}
 use Rattle.rules.specs.Figures.{one_figure, reach_figure, figures_of}
-use Rattle.rules.specs.Reply.{answer}
-use Rattle.rules.specs.declared.Reply.{Reply}
-
--- a reply of one figure
-abbrev pub figure_reply : ℕ → Reply
-figure_reply x = answer 0 (one_figure x)
 
 -- ---- poll
 -- by the stations and the item that were read, and the polled set with one more station
-pub poll_figure : (t : List ℕ) (s : ℕ) {n i polled figure : ℕ} {place : Place} → n ≡ stations t → i ≡ (round_of t).item
+pub poll_figure : (t : List ℕ) (s : ℕ) {n i polled figure : ℕ} {place : Option ℕ} → n ≡ stations t → i ≡ (round_of t).item
     → polled ≡ (with_poll (round_of t) s).polled → place ≡ heard_place (copies_of t n i) polled n → figure ≡ place_figure place
-    → figure_reply figure ≡ answer 0 (figures_of (view t) (poll s))
+    → one_figure figure ≡ figures_of (view t) (poll s)
 unfolding figures_of view
 poll_figure t s e f g h q =
-    let own = rw (e, f, g) at h in ap figure_reply (q ∙ ap place_figure own)
+    let own = rw (e, f, g) at h in ap one_figure (q ∙ ap place_figure own)
 
 -- ---- reach: what polling the stations on the bus finds
 module _ (t : List ℕ) (i : ℕ) {n on : ℕ} (a : n ≡ stations t) (on_bus_lem : on ≡ on_bus (view t)) where

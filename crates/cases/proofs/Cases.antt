@@ -5,7 +5,7 @@ use Rattle.basics.specs.Listing.{passing}
 use Rattle.basics.specs.Bytes.{little_endian, bytes_of, over}
 use Rattle.quorum.specs.Sets.{member, used, holds, shares, within, join, minus, remove, full}
 use Rattle.quorum.specs.Configurations.{set_at, read_set, write_set, used_first, some_used, all_within, shares_all, all_share, validity, valid}
-use Rattle.quorum.specs.Configurations.{holds_place, first_place, or_else, first_read, first_write, place_figure, is_place}
+use Rattle.quorum.specs.Configurations.{holds_place, first_place, first_read, first_write, place_figure}
 use Rattle.form.specs.Sides.{places, side_bytes, config_bytes}
 use Rattle.form.specs.Form.{is_set_of, contains_another, stays, form_sets, standard_form}
 use Rattle.layout.specs.Layout.{address, table_length}
@@ -26,7 +26,7 @@ pub cases : Cases
 unfolding all all_below any_below little_endian
     member used holds shares within join minus remove full
     set_at read_set write_set used_first some_used all_within shares_all all_share validity valid holds_place
-    first_place or_else first_read first_write place_figure is_place
+    first_place first_read first_write place_figure
     is_set_of contains_another stays form_sets places side_bytes config_bytes standard_form
     address table_length copy_from round_sound copies_valid soundness sound newest by_version by_generation hears view
     bytes_of over set_off set_polled set_puts set_round put_data put_config copy_bytes repeated put_copies

@@ -1,96 +1,87 @@
--- Commit's reply in a heard round: by the round's kind, what the code's tests come to, and the figures.
+-- Commit in an open round: its number, by the round's kind and what the code's tests come to, and its figures.
 use mathlib.Core.Path.{◌≡◌, refl, sym, ap, ◌∙◌}
-use mathlib.Core.Bool.{Bool, true, false}
+use mathlib.Core.Bool.{Bool, true, false, not, cond}
 use mathlib.Core.List.{List}
 use Prim.Native.Nat.{ℕ, ◌-◌, ◌^◌, ◌<◌}
 use native.Mathlib.Omega.{arith}
-use borrow.Author.Tests.{eqb-false, ne_eqb}
+use borrow.Author.Tests.{eqb-false}
 use Rattle.basics.proofs.Tests.{either, fails}
-use Rattle.quorum.specs.Configurations.{holds_write}
-use Rattle.layout.specs.Fields.{Kind, copy_from}
+use Rattle.quorum.specs.Configurations.{place_figure, holds_write}
+use Rattle.layout.specs.Fields.{copy_from}
+use Rattle.layout.specs.Newest.{station_figure}
 use Rattle.layout.specs.Soundness.{sound}
-use Rattle.layout.specs.View.{view, found_by_version, found_by_generation, heard}
-use Rattle.rules.specs.Calls.{commit, abandon, diagnose}
-use Rattle.rules.specs.Rules.{first, tests, last, is_idle, spent, written, commit_tests}
-use Rattle.rules.specs.Figures.{figures_of, closing, diagnosis}
-use Rattle.rules.specs.Reply.{answer, reply_of, reply}
-use Rattle.rules.proofs.Judged.{a_round, sound-number}
-use Rattle.rules.specs.declared.Reply.{Reply}
-use Rattle.closing.specs.Closing.{OpenRound, HeardAt, VersionAt, OfKind, closing_number, closing_reply}
+use Rattle.layout.specs.View.{view, found_by_version, found_by_generation, version_from, read_place, heard}
+use Rattle.layout.specs.declared.Kind.{Kind}
+use Rattle.layout.specs.declared.Kind.TheVariants.{Read, Write, Change}
+use Rattle.table.specs.Kinds.{opened_kind}
+use Rattle.rules.specs.Calls.{commit}
+use Rattle.rules.specs.Rules.{first, tests, idle, is_idle, last, spent, commit_tests}
+use Rattle.rules.specs.Outcome.{refusal_number}
+use Rattle.rules.specs.Figures.{closing, diagnosis, figures_of}
+use Rattle.rules.specs.Reply.{reply}
+use Rattle.rules.specs.declared.Figures.{Figures}
+use Rattle.rules.specs.declared.Refusal.{Refusal}
+use Rattle.rules.proofs.Judged.{sound-number}
+use Rattle.rules.proofs.Outcomes.{refusal_some, bare, shows, refused, finished}
+use Rattle.closing.specs.Closing.{OpenRound, HeardAt, VersionAt, closing_number}
 
--- ---- the reply, by the tests
-abbrev pub refusal : ℕ → Reply
-refusal k = record { number = k; first = 0; second = 0; third = 0 }
+-- ---- a round is open
+open_kind : (k : Kind) → idle (opened_kind k) ≡ false
+open_kind Read = refl
+open_kind Write = refl
+open_kind Change = refl
 
--- on a sound table, with no round, in a round that is not heard, and in one that is
-module _ (t : List ℕ) (e : sound t ≡ true) where
-  by_tests : reply t commit ≡ answer (first (tests (view t) commit)) (figures_of (view t) commit)
-  unfolding reply_of view
-  by_tests = rw (sound-number (view t) commit refl e)
+module _ {t : List ℕ} {kind : Kind} (o : OpenRound t kind) where
+  not_idle : is_idle (view t) ≡ false
+  not_idle = ap idle (sym o.kind_is) ∙ open_kind kind
 
-  -- by abandon's number, which is commit's too where it is not 0
-  pub idle-reply : {k : ℕ} → k ≡ first (tests (view t) abandon) → (k ≡ 0 → ⊥) → refusal k ≡ reply t commit
+  -- commit's number, by whether it is heard
+  pub commit_number : {b : Bool} → heard (view t) ≡ b → cond (not b) 8 (closing_number t) ≡ first (tests (view t) commit)
   unfolding tests first
-  idle-reply e h = either (is_idle (view t)) (λ i. sym (by_tests ∙ rw (e, i))) (λ i. absurd (h (e ∙ rw i)))
+  commit_number h = rw (not_idle, h)
 
-  pub unheard-reply : is_idle (view t) ≡ false → heard (view t) ≡ false → refusal 8 ≡ reply t commit
-  unfolding tests first
-  unheard-reply i h = sym (by_tests ∙ rw (i, h))
+  -- in a heard round, by its kind
+  pub by_kind : closing_number t ≡ first (commit_tests (view t) (opened_kind kind))
+  by_kind = ap (λ k. first (commit_tests (view t) k)) (sym o.kind_is)
 
-  heard-reply : is_idle (view t) ≡ false → heard (view t) ≡ true → closing_reply t ≡ reply t commit
-  unfolding tests first
-  heard-reply i h = sym (by_tests ∙ rw (i, h))
-
-pub closes : (t : List ℕ) {g : ℕ} → HeardAt t g → closing_reply t ≡ reply t commit
-closes t f = heard-reply t f.is_open.0 ((a_round _).1 f.is_open.1) f.is_heard
-
--- ---- diagnose: it is done, and shows commit's number
-pub diagnosed : (t : List ℕ) → OpenRound t → {k y z : ℕ} {outcome : Reply} → outcome ≡ reply t commit → k ≡ outcome.number
-    → y ≡ (diagnosis (view t)).second → z ≡ (diagnosis (view t)).third → record { number = 0; first = k; second = y; third = z } ≡ reply t diagnose
-unfolding tests first figures_of reply_of view
-diagnosed t o e k y z =
-    let shows = k ∙ ap (λ r. r.number) e in
-    let is_open = (a_round _).1 o.1 in
-    (λ j. record { number = 0; first = shows j; second = y j; third = z j }) ∙ sym (rw (sound-number (view t) diagnose refl o.0, is_open))
-
--- a number that is not 0 is the whole reply
-pub refused-reply : (t : List ℕ) {k : ℕ} → k ≡ closing_number t → (k ≡ 0 → ⊥) → refusal k ≡ closing_reply t
-refused-reply t {k} e h = rw (← e, ne_eqb k 0 h)
-
--- in a heard round, by its kind
-module _ (t : List ℕ) {k : Kind} (e : OfKind t k) where
-  number_by_kind : closing_number t ≡ first (commit_tests (view t) k)
-  number_by_kind = rw e
-
-  pub spent-number : spent (view t) k ≡ true → 10 ≡ closing_number t
+  -- a number of 0 says that the counter is not spent
+  pub not_spent : closing_number t ≡ 0 → spent (view t) (opened_kind kind) ≡ false
   unfolding first
-  spent-number s = sym (number_by_kind ∙ rw s)
+  not_spent z = fails _ (λ s. let y : ◌≡◌ {A = ℕ} 10 0 = sym (by_kind ∙ rw s) ∙ z in absurd (omega arith))
 
-  pub short-number : spent (view t) k ≡ false → written (view t) k ≡ false → 11 ≡ closing_number t
-  unfolding first
-  short-number s w = sym (number_by_kind ∙ rw (s, w))
+  -- the reply of a commit, by its number: refused, or done with these figures
+  pub refused_commit : sound t ≡ true → (e : Refusal) → refusal_number e ≡ first (tests (view t) commit) → bare (refusal_number e) ≡ reply t commit
+  refused_commit s e q = (refused t s commit refl e q).value
 
-  pub done-number : spent (view t) k ≡ false → written (view t) k ≡ true → 0 ≡ closing_number t
-  unfolding first
-  done-number s w = sym (number_by_kind ∙ rw (s, w))
+  pub done_commit : sound t ≡ true → {f : Figures} → 0 ≡ first (tests (view t) commit) → f ≡ closing (view t) (opened_kind kind) → shows f ≡ reply t commit
+  unfolding figures_of
+  done_commit s q p = (finished t s commit refl q (p ∙ ap (closing (view t)) o.kind_is) refl).value
 
-  -- a number of 0 says that the counter is not spent, and then the figures are those of the kind
-  module _ (z : closing_number t ≡ 0) where
-    pub not-spent : spent (view t) k ≡ false
-    unfolding first
-    not-spent = fails _ (λ s. let y : ◌≡◌ {A = ℕ} 10 0 = spent-number s ∙ z in absurd (omega arith))
+  -- what diagnose shows
+  pub diagnosis_is : sound t ≡ true → {x y z : ℕ} → x ≡ first (tests (view t) commit) → y ≡ station_figure (version_from (view t))
+      → z ≡ place_figure (read_place (view t)) → record { first = x; second = y; third = z } ≡ diagnosis (view t)
+  unfolding view
+  diagnosis_is s e p q = let n = e ∙ sym (sound-number (view t) commit refl s) in λ i. record { first = n i; second = p i; third = q i }
 
-    pub closes_with : {a b c : ℕ} → a ≡ (closing (view t) k).first → b ≡ (closing (view t) k).second → c ≡ (closing (view t) k).third
-        → record { number = 0; first = a; second = b; third = c } ≡ closing_reply t
-    unfolding figures_of
-    closes_with p q r = (λ i. record { number = 0; first = p i; second = q i; third = r i }) ∙ rw (z, e)
+  -- the number by the one test of a heard round
+  pub unheard_refusal : (e : Refusal) → refusal_number e ≡ cond (not (heard (view t))) 8 0 → refusal_number e ≡ first (tests (view t) commit)
+  unheard_refusal e q =
+      either (heard (view t)) (λ h. let z : refusal_number e ≡ 0 = rw h at q in absurd (omega (arith, refusal_some e)))
+      (λ h. let z : refusal_number e ≡ 8 = rw h at q in z ∙ commit_number h)
+
+pub heard_passed : {b : Bool} → ◌≡◌ {A = ℕ} 0 (cond (not b) 8 0) → b ≡ true
+heard_passed {b} e = either b (λ h. h) (λ h. absurd (omega (arith, rw h at e)))
 
 -- ---- what is read from the newest copies is what the round has found
 pub value_is : (t : List ℕ) (b : ℕ) {x : ℕ} → VersionAt t b → x ≡ (copy_from t b).value → x ≡ (found_by_version (view t)).value
 value_is t b h e = rw h.0 e
 
-pub config_is : {t : List ℕ} {g : ℕ} {c : List ℕ} → HeardAt t g → c ≡ (copy_from t g).config → c ≡ (found_by_generation (view t)).config
+pub config_is : {t : List ℕ} {kind : Kind} {g : ℕ} {c : List ℕ} → HeardAt t kind g → c ≡ (copy_from t g).config → c ≡ (found_by_generation (view t)).config
 config_is h e = rw h.generation e
+
+pub figures_are : {a b c x y z : ℕ} → a ≡ x → b ≡ y → c ≡ z
+    → ◌≡◌ {A = Figures} (record { first = a; second = b; third = c }) (record { first = x; second = y; third = z })
+figures_are p q r = λ i. record { first = p i; second = q i; third = r i }
 
 -- ---- the code's tests
 -- a counter that is not the last can be raised

@@ -22,14 +22,6 @@ pub printed-length : (t l : List ℕ) → length (printed t l) ≡ reply_line_si
 unfolding printed
 printed-length t l = reply_length _ _
 
--- buffers that fit have the same lengths
-module _ {table line out : List ℕ} {s : Fed} {table' line' out' : List ℕ} {r : Fed} (x : Fits table' line' out' r) (y : Fits table line out s) where
-  pub same_tables : length table' ≡ length table
-  same_tables = x.table_length_lem ∙ sym y.table_length_lem
-
-  pub same_lines : length line' ≡ length line
-  same_lines = x.line_length ∙ sym y.line_length
-
 -- ---- no stretch, and two stretches
 pub takes_none : (piece table line out : List ℕ) (s : Fed) → Fits table line out s → Takes piece table line out s table line out s
 unfolding after_piece printed_by

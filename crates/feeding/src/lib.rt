@@ -67,16 +67,13 @@ fn step(piece: &[u8], table: &mut [u8], line: &mut [u8], out: &mut [u8], s: Fed)
     ensures goes_on { s.at < result.at }
 {
     let at = s.at;
-    let end = find_end(piece, at);
-    if end < piece.len() {
-        return take_line(piece, end, table, line, out, s);
-    }
-    let len = keep(&piece[at..end], line, s.len);
-    Fed {
-        at: end,
-        len,
-        used: s.used,
-        out: s.out,
+    match find_end(&piece[at..]) {
+        Some(n) => take_line(piece, at + n, table, line, out, s),
+        None => Fed {
+            at: piece.len(),
+            len: keep(&piece[at..], line, s.len),
+            ..s
+        },
     }
 }
 

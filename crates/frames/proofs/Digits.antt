@@ -1,16 +1,17 @@
 -- Hexadecimal digits and bytes: what is known of a digit, and both ways back.
 use mathlib.Core.Path.{◌≡◌, refl, ◌∙◌}
-use mathlib.Core.Bool.{Bool, true, false, cond, ◌&&◌, ◌||◌, and-false}
+use mathlib.Core.Bool.{Bool, true, false, cond, ◌&&◌, and-false}
 use mathlib.Core.List.{List, [], ◌∷◌}
-use Prim.Native.Nat.{ℕ, zero, suc, ◌+◌, ◌-◌, ◌*◌, ◌/◌, ◌%◌, ◌≤◌, ◌<◌}
+use Prim.Native.Nat.{ℕ, ◌+◌, ◌-◌, ◌*◌, ◌/◌, ◌%◌, ◌≤◌, ◌<◌}
 use native.Mathlib.Omega.{arith}
 use lib.Dec.{ltb, leb}
 use lib.ListN.{length}
 use borrow.Author.Tests.{le-leb, lt-leb, lt-ltb, le-ltb, leb-true, ltb-true, ltb-false}
+use Rattle.std.specs.Prelude.{Some, None, unwrap_or}
 use Rattle.basics.specs.Bytes.{AreBytes}
-use Rattle.basics.proofs.Tests.{by_cases, clash, and_left, and_right, or_cases, or_right, either}
+use Rattle.basics.proofs.Tests.{by_cases, and_left, and_right, or_cases, or_right, either}
 use Rattle.frames.specs.Hex.{is_digit, all_digits, value_of, byte_of, bytes_in, digit_of, hex_of}
-use Rattle.frames.specs.Reading.{value_or, of_values, byte_or}
+use Rattle.frames.specs.Reading.{value_in, byte_in}
 
 -- ---- one digit: a number or a letter
 pub digit_cases : {A : Type 0} (c : ℕ) → is_digit c ≡ true → (48 ≤ c → c ≤ 57 → A) → (65 ≤ c → c ≤ 70 → A) → A
@@ -116,75 +117,56 @@ shown_again (a ∷ b ∷ rest) n e d =
     let v : (16 * value_of a + value_of b) % 16 ≡ value_of b = omega (arith, value_lt b r) in
     rw (byte_digits a b p r, u, v, digit_of_value a p, digit_of_value b r, shown_again rest (n - 1) (omega arith) (and_right (is_digit b) (all_digits rest) q))
 
--- ---- a character that is a digit or none, told by its value
-value_or_lem : (c : ℕ) → is_digit c ≡ true → value_or c ≡ value_of c
-unfolding value_or
-value_or_lem c e = rw e
+-- ---- a character that is a digit or none
+module _ (c : ℕ) where
+  pub value_given : {v : ℕ} → Some v ≡ value_in c → (is_digit c ≡ true) × (v ≡ value_of c)
+  unfolding value_in
+  value_given {v} e =
+      by_cases (λ (b : Bool). is_digit c ≡ b → Some v ≡ cond b (Some (value_of c)) None → (is_digit c ≡ true) × (v ≡ value_of c)) (is_digit c)
+      (λ _ d q. (d, cc)) (λ _ d q. (cc, cc)) refl e
 
-no_value : (c : ℕ) → is_digit c ≡ false → value_or c ≡ 255
-unfolding value_or
-no_value c e = rw e
+  pub value_none : None ≡ value_in c → is_digit c ≡ false
+  unfolding value_in
+  value_none e =
+      by_cases (λ (b : Bool). is_digit c ≡ b → None ≡ cond b (Some (value_of c)) None → is_digit c ≡ false) (is_digit c)
+      (λ _ d q. cc) (λ _ d q. d) refl e
 
 -- ---- two characters: a byte, or none
 module _ (high low : ℕ) where
-  both : is_digit high ≡ true → is_digit low ≡ true → byte_or high low ≡ byte_of high low
-  both p q =
-      let h : value_or high ≤ 15 = rw (value_or_lem high p) (omega (arith, value_lt high p)) in
-      let l : value_or low ≤ 15 = rw (value_or_lem low q) (omega (arith, value_lt low q)) in
-      rw (le-ltb 15 (value_or high) h, le-ltb 15 (value_or low) l, value_or_lem high p, value_or_lem low q, byte_digits high low p q)
+  pub byte_given : {b : ℕ} → Some b ≡ byte_in high low → (is_digit high ≡ true) × (is_digit low ≡ true) × (b ≡ byte_of high low)
+  unfolding byte_in
+  byte_given {b} e =
+      by_cases
+      (λ (d : Bool).
+      (is_digit high && is_digit low) ≡ d → Some b ≡ cond d (Some (byte_of high low)) None
+      → (is_digit high ≡ true) × (is_digit low ≡ true) × (b ≡ byte_of high low)) (is_digit high && is_digit low)
+      (λ _ d q. (and_left (is_digit high) (is_digit low) d, and_right (is_digit high) (is_digit low) d, cc)) (λ _ d q. (cc, cc, cc)) refl e
 
-  one_none : (is_digit high && is_digit low) ≡ false → byte_or high low ≡ 256
-  one_none e =
-      let some-large : (ltb 15 (value_or high) || ltb 15 (value_or low)) ≡ true =
-      either (is_digit high)
-      (λ p. either (is_digit low) (λ q. clash (rw (p, q)) e) (λ q. or_right (ltb 15 (value_or high)) (ltb 15 (value_or low)) (rw (no_value low q))))
-      (λ p. rw (no_value high p))
-      in
-      rw some-large
+  pub byte_none : None ≡ byte_in high low → (is_digit high && is_digit low) ≡ false
+  unfolding byte_in
+  byte_none e =
+      by_cases
+      (λ (d : Bool). (is_digit high && is_digit low) ≡ d → None ≡ cond d (Some (byte_of high low)) None → (is_digit high && is_digit low) ≡ false)
+      (is_digit high && is_digit low) (λ _ d q. cc) (λ _ d q. d) refl e
 
-  pub from_values : {h l r : ℕ} → h ≡ value_or high → l ≡ value_or low → r ≡ of_values h l → r ≡ byte_or high low
-  from_values p q e = rw (← p, ← q) e
+  pub of_values : {h l : ℕ} → Some h ≡ value_in high → Some l ≡ value_in low → Some (16 * h + l) ≡ byte_in high low
+  unfolding byte_in
+  of_values p q =
+      let x = value_given high p in
+      let y = value_given low q in
+      rw (x.0, y.0, byte_digits high low x.0 y.0, x.1, y.1)
 
-  -- what is below 256 is the byte of two digits
-  pub small_byte : byte_or high low ≤ 255 → (is_digit high ≡ true) × (is_digit low ≡ true) × (byte_or high low ≡ byte_of high low)
-  small_byte h =
-      either (is_digit high)
-      (λ p. either (is_digit low) (λ q. (p, q, both p q)) (λ q. absurd (omega (arith, one_none (rw q (and-false (is_digit high)))))))
-      (λ p. absurd (omega (arith, one_none (rw p))))
+  pub no_high : None ≡ value_in high → None ≡ byte_in high low
+  unfolding byte_in
+  no_high e = rw (value_none high e)
 
-  pub large_byte : 255 < byte_or high low → (is_digit high && is_digit low) ≡ false
-  large_byte h =
-      either (is_digit high)
-      (λ p. either (is_digit low) (λ q. absurd (omega (arith, both p q, byte_lt high low))) (λ q. rw q (and-false (is_digit high))))
-      (λ p. rw p)
+  pub no_low : None ≡ value_in low → None ≡ byte_in high low
+  unfolding byte_in
+  no_low e = rw (value_none low e, and-false (is_digit high))
 
-  pub byte_of_none : 255 < byte_or high low → byte_of high low ≡ 0
-  unfolding byte_of
-  byte_of_none h = rw (large_byte h)
-
--- ---- a character that is none of so many from a place on, besides what else is known of it
-abbrev pub Besides : Type 0 → ℕ → ℕ → ℕ → Type 0
-Besides A c from zero = A
-Besides A c from (suc k) = Besides A c from k × (c ≡ from + k → ⊥)
-
-module _ (A : Type 0) (c from : ℕ) where
-  beside : (k : ℕ) → Besides A c from k → A
-  beside zero n = n
-  beside (suc k) n = beside k n.0
-
-  not_within : (k : ℕ) → Besides A c from k → from ≤ c → c < from + k → ⊥
-  not_within zero n a b = omega arith
-  not_within (suc k) n a b = let other = n.1 in not_within k n.0 a (omega arith)
-
--- what is no number and no letter is no digit
-abbrev pub NoNumber : ℕ → Type 0
-NoNumber c = Besides (Unit {0}) c 48 10
-
-pub no_digit : (c : ℕ) → Besides (NoNumber c) c 65 6 → value_or c ≡ 255
-no_digit c n =
-    either (is_digit c)
-    (λ e.
-    absurd
-    (digit_cases c e (λ a b. not_within (Unit {0}) c 48 10 (beside (NoNumber c) c 65 6 n) a (omega arith))
-    (λ a b. not_within (NoNumber c) c 65 6 n a (omega arith))))
-    (λ e. no_value c e)
+pub byte_or_zero : (high low : ℕ) → unwrap_or (byte_in high low) 0 ≡ byte_of high low
+unfolding byte_in byte_of
+byte_or_zero high low =
+    by_cases
+    (λ (d : Bool). unwrap_or (cond d (Some (cond d (16 * value_of high + value_of low) 0)) None) 0 ≡ cond d (16 * value_of high + value_of low) 0)
+    (is_digit high && is_digit low) (λ _. refl) (λ _. refl)

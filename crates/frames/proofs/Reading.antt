@@ -8,13 +8,15 @@ use native.Mathlib.Omega.{arith}
 use native.Mathlib.Numerals.{add-one}
 use lib.ListN.{length, get_or, take, drop, set, length-drop, take-append-drop}
 use lib.Seq.{take_all, take-suc-set, drop-cons}
+use Rattle.std.specs.Prelude.{Option, Some, None}
+use Rattle.std.specs.Simd.{first_chunks}
 use Rattle.basics.proofs.Tests.{by_cases, clash, and_left, and_right}
 use Rattle.dispatch.specs.Dispatch.{lengths, frame_length, call_at}
 use Rattle.dispatch.proofs.Codes.{no_code, unread}
 use Rattle.frames.specs.Hex.{is_digit, all_digits, value_of, byte_of, bytes_in}
 use Rattle.frames.specs.Frame.{call_byte, arguments_in, is_frame, call_of}
-use Rattle.frames.specs.Reading.{byte_or, code_in, Leads}
-use Rattle.frames.proofs.Digits.{small_byte, large_byte}
+use Rattle.frames.specs.Reading.{byte_in, code_in, Leads}
+use Rattle.frames.proofs.Digits.{byte_given, byte_none}
 use Rattle.frames.proofs.FrameLines.{Framed, framed, is_frame_lem, not_frame}
 
 -- places two apart
@@ -61,6 +63,24 @@ length_dbl (suc k) (a ∷ b ∷ rest) h = ap suc (length_dbl k rest (omega arith
 pub bytes_in_length : (text : List ℕ) (n : ℕ) → length text ≡ 2 * n → length (bytes_in text) ≡ n
 bytes_in_length text n e = length_dbl n text (e ∙ sym (dbl_twice n))
 
+-- the characters of a text, two by two
+pairs : (text : List ℕ) (n k : ℕ) (d : List ℕ) → k < n → 2 * n ≤ length text
+    → (get_or (get_or (first_chunks 2 n text) k d) 0 0 ≡ get_or text (dbl k) 0)
+    × (get_or (get_or (first_chunks 2 n text) k d) 1 0 ≡ get_or text (suc (dbl k)) 0)
+pairs text zero k d h l = absurd (omega arith)
+pairs [] (suc n) k d h l = absurd (omega arith)
+pairs (a ∷ []) (suc n) k d h l = absurd (omega arith)
+pairs (a ∷ b ∷ rest) (suc n) zero d h l = (refl, refl)
+pairs (a ∷ b ∷ rest) (suc n) (suc k) d h l = pairs rest n k d (omega arith) (omega arith)
+
+pub byte_at : (text : List ℕ) {chunks : List (List ℕ)} (n k : ℕ) (d : List ℕ) {o : Option ℕ} → chunks ≡ first_chunks 2 n text → k < n → 2 * n ≤ length text
+    → o ≡ byte_in (get_or (get_or chunks k d) 0 0) (get_or (get_or chunks k d) 1 0) → o ≡ byte_in (get_or text (2 * k) 0) (get_or text (2 * k + 1) 0)
+byte_at text n k d cut h l is =
+    let e = dbl_twice k in
+    let f : suc (dbl k) ≡ 2 * k + 1 = omega arith in
+    let p = pairs text n k d h l in
+    is ∙ rw (cut, p.0, p.1, f, e)
+
 -- ---- k bytes of a text are read: all were digits, and the bytes lead the buffer
 abbrev pub SoFar : List ℕ → ℕ → List ℕ → Type 0
 SoFar text k bytes = (all_digits (take (2 * k) text) ≡ true) × (take k bytes ≡ bytes_in (take (2 * k) text))
@@ -88,22 +108,22 @@ module _ (text : List ℕ) (k : ℕ) (h : 2 * k + 1 < length text) where
       ≡ bytes_in (take (2 * k) text) ++ (byte_of (get_or text (2 * k) 0) (get_or text (2 * k + 1) 0) ∷ [])
   bytes_more = rw (← places.2, ← places.1, ← places.0) (bytes_dbl k text (omega (arith, places.1)))
 
-  pub read_turn : (bytes : List ℕ) → k < length bytes → SoFar text k bytes → byte_or (get_or text (2 * k) 0) (get_or text (2 * k + 1) 0) ≤ 255
-      → SoFar text (k + 1) (set bytes k (byte_or (get_or text (2 * k) 0) (get_or text (2 * k + 1) 0)))
-  read_turn bytes l s h =
-      let b = small_byte (get_or text (2 * k) 0) (get_or text (2 * k + 1) 0) h in (
-        rw (digits_more, s.0, b.0, b.1),
-        rw (b.2, bytes_more, ← s.1, add-one k) (take-suc-set bytes k _ l),
+  pub read_turn : (bytes : List ℕ) {b : ℕ} → k < length bytes → SoFar text k bytes → Some b ≡ byte_in (get_or text (2 * k) 0) (get_or text (2 * k + 1) 0)
+      → SoFar text (k + 1) (set bytes k b)
+  read_turn bytes l s e =
+      let given = byte_given _ _ e in (
+        rw (digits_more, s.0, given.0, given.1),
+        rw (given.2, bytes_more, ← s.1, add-one k) (take-suc-set bytes k _ l),
       )
 
-  pub read_stop : 255 < byte_or (get_or text (2 * k) 0) (get_or text (2 * k + 1) 0) → false ≡ all_digits text
-  read_stop l =
+  pub read_stop : None ≡ byte_in (get_or text (2 * k) 0) (get_or text (2 * k + 1) 0) → false ≡ all_digits text
+  read_stop e =
       by_cases (λ (b : Bool). all_digits text ≡ b → false ≡ b) (all_digits text)
       (λ _ d.
       let two : (is_digit (get_or text (2 * k) 0) && is_digit (get_or text (2 * k + 1) 0)) ≡ true =
       rw (digits_at text (2 * k) (omega arith) d, digits_at text (2 * k + 1) (omega arith) d)
       in
-      clash two (large_byte (get_or text (2 * k) 0) (get_or text (2 * k + 1) 0) l))
+      clash two (byte_none _ _ e))
       (λ _ d. refl) refl
 
 pub read_end : (text : List ℕ) (n k : ℕ) (bytes : List ℕ) → length text ≡ 2 * n → k ≤ n → n ≤ k → SoFar text k bytes

@@ -1,20 +1,16 @@
 -- What the functions of the frame reader compute: of characters; and of a line a code, and the argument bytes at the front of a buffer with
 -- room for those of any frame. A reader of the claims needs `call_of`, which these stand for (`frame_call` in proofs/Reading.antt).
-use Rattle.std.specs.Prelude.{◌≡◌, cond, ◌||◌, List, ℕ, ◌+◌, ◌-◌, ◌*◌, ltb, length, take}
+use Rattle.std.specs.Prelude.{◌≡◌, cond, ◌&&◌, List, ℕ, ◌-◌, length, take, Option, Some, None}
 use Rattle.dispatch.specs.Dispatch.{longest}
-use Rattle.frames.specs.Hex.{is_digit, value_of}
+use Rattle.frames.specs.Hex.{is_digit, value_of, byte_of}
 use Rattle.frames.specs.Frame.{call_byte, is_frame}
 
--- ---- digits, and two of them: the value of a digit, and 255 for any other character; the byte of two such values, and 256 if one of them
--- is no digit's
-unfoldable pub value_or : ℕ → ℕ
-value_or c = cond (is_digit c) (value_of c) 255
+-- ---- digits, and two of them: the value of a digit, and the byte of two; none of any other character
+unfoldable pub value_in : ℕ → Option ℕ
+value_in c = cond (is_digit c) (Some (value_of c)) None
 
-abbrev pub of_values : ℕ → ℕ → ℕ
-of_values high low = cond (ltb 15 high || ltb 15 low) 256 (16 * high + low)
-
-abbrev pub byte_or : ℕ → ℕ → ℕ
-byte_or high low = of_values (value_or high) (value_or low)
+unfoldable pub byte_in : ℕ → ℕ → Option ℕ
+byte_in high low = cond (is_digit high && is_digit low) (Some (byte_of high low)) None
 
 -- ---- the bytes behind byte 0 in the longest frame
 abbrev pub most_arguments : ℕ

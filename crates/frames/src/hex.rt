@@ -1,51 +1,53 @@
 // Hexadecimal, upper-case, both ways.
 ghost use Rattle.std.specs.Prelude.{◌≡◌, ◌/◌, ◌%◌, ◌<◌};
 ghost use Rattle.frames.specs.Hex.{digit_of};
-ghost use Rattle.frames.specs.Reading.{value_or, of_values};
+ghost use Rattle.frames.specs.Reading.{value_in, byte_in};
 
-// More than any byte.
-const NO_BYTE: u16 = 256;
-
-// The value of an upper-case hexadecimal digit; 255 of any other character. The machine looks it up in a table.
-pub fn digit_value(c: u8) -> u8
-    ensures { result ≡ value_or c }
+// The value of an upper-case hexadecimal digit. Digit by digit, so that the machine looks it up in a table and takes no branch between numbers and
+// letters.
+#[tactic(auto, unfolding(crate::specs::Reading::value_in, crate::specs::Hex::value_of, crate::specs::Hex::is_digit))]
+pub fn digit_value(c: u8) -> Option<u8>
+    ensures { result ≡ value_in c }
 {
     match c {
-        48 => 0,
-        49 => 1,
-        50 => 2,
-        51 => 3,
-        52 => 4,
-        53 => 5,
-        54 => 6,
-        55 => 7,
-        56 => 8,
-        57 => 9,
-        65 => 10,
-        66 => 11,
-        67 => 12,
-        68 => 13,
-        69 => 14,
-        70 => 15,
-        _ => 255,
+        b'0' => Some(0),
+        b'1' => Some(1),
+        b'2' => Some(2),
+        b'3' => Some(3),
+        b'4' => Some(4),
+        b'5' => Some(5),
+        b'6' => Some(6),
+        b'7' => Some(7),
+        b'8' => Some(8),
+        b'9' => Some(9),
+        b'A' => Some(10),
+        b'B' => Some(11),
+        b'C' => Some(12),
+        b'D' => Some(13),
+        b'E' => Some(14),
+        b'F' => Some(15),
+        _ => None,
     }
 }
 
-// The byte of the values of two digits; 256 if one of them is none.
-pub fn byte_of_values(high: u8, low: u8) -> u16
-    ensures { result ≡ of_values high low }
+// The byte of two digits. Within the loop that reads them: a call for each byte takes the runner a tenth more time.
+#[inline(always)]
+pub fn byte_of(high: u8, low: u8) -> Option<u8>
+    ensures { result ≡ byte_in high low }
 {
-    if (15 < high) | (15 < low) {
-        return NO_BYTE;
-    }
-    16 * (high as u16) + low as u16
+    Some(16 * digit_value(high)? + digit_value(low)?)
 }
 
+#[tactic(auto, unfolding(crate::specs::Hex::digit_of))]
 fn digit(value: u8) -> u8
     requires { value < 16 }
     ensures { result ≡ digit_of value }
 {
-    if value < 10 { 48 + value } else { 55 + value }
+    if value < 10 {
+        b'0' + value
+    } else {
+        b'A' + (value - 10)
+    }
 }
 
 // The first of the two characters of a byte.

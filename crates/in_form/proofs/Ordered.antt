@@ -1,20 +1,26 @@
 -- A valid side whose sets rise, none within a later one, has the sets that stay, and no others; and a side that has these is so ordered.
-use mathlib.Core.Path.{◌≡◌, refl, sym, ap, fun_ext, transport, ◌∙◌}
-use mathlib.Core.Bool.{true, false, not, ◌&&◌, false≢true}
+use mathlib.Core.Path.{◌≡◌, refl, sym, ap, ◌∙◌}
+use mathlib.Core.Bool.{Bool, true, false, not, ◌&&◌, ◌||◌, false≢true}
 use mathlib.Core.List.{List, [], ◌∷◌}
 use mathlib.Core.Logic.{◌↔◌}
 use Prim.Native.Nat.{ℕ, zero, suc, ◌+◌, ◌-◌, ◌≤◌, ◌<◌}
-use native.Mathlib.Nat.{not-suc-le-zero, zero-add}
+use native.Mathlib.Nat.{not-suc-le-zero}
+use native.Mathlib.Numerals.{add-one}
 use native.Mathlib.Omega.{arith}
 use lib.Dec.{ltb, eqb}
 use lib.Bits.{bit_and}
-use lib.ListN.{length, get_or, get_or-eq_default}
+use lib.ListN.{length, take, get_or, get_or-eq_default}
+use Rattle.std.specs.List.{fold, list_all}
+use Rattle.std.proofs.lemmas.List.Folds.{list_all_more}
+use Rattle.basics.specs.Tests.{all_below}
+use Rattle.sets.specs.Inner.{eight}
+use Rattle.sets.proofs.Sides.{at_place}
 use borrow.Author.Count.{below_more}
-use borrow.Author.Tests.{ltb-true, ltb-false, eqb-true, eqb-false, eq-eqb, ne_eqb, not-true, not-false}
+use borrow.Author.Tests.{ltb-true, ltb-false, eqb-true, eqb-false, ne_eqb, not-true, not-false}
 use Rattle.basics.specs.Bytes.{AreBytes}
-use Rattle.basics.proofs.Tests.{clash, either, fails, and_left, and_right, and_both, any_below_lem, below-any, below_suc}
+use Rattle.basics.proofs.Tests.{clash, either, fails, and_left, and_right, and_both, any_below_lem, below-any, below_suc, all-below, below_all}
 use Rattle.quorum.specs.Sets.{used, holds}
-use Rattle.quorum.specs.Configurations.{set_at, read_set, write_set, holds_place, valid}
+use Rattle.quorum.specs.Configurations.{read_set, write_set, holds_place, valid}
 use Rattle.quorum.specs.Promise.{Side, Valid}
 use Rattle.quorum.proofs.Promise.{promise}
 use Rattle.form.specs.Form.{contains_another, standard_form}
@@ -22,7 +28,7 @@ use Rattle.form.proofs.Sides.{Filled}
 use Rattle.form.proofs.Smallest.{stays-used, stays_alone, alone_stays}
 use Rattle.form.proofs.Own.{Formed, own_config, reads_filled, writes-filled}
 use Rattle.form.proofs.Laws.{Staying, form_any}
-use Rattle.in_form.specs.InForm.{side_from, Apart, Follows, InForm}
+use Rattle.in_form.specs.InForm.{none_within, Apart, Follows, InForm}
 
 -- ---- the answers of a test
 pub yes : {A : Type 0} → A → (true ≡ true) ↔ A
@@ -32,17 +38,30 @@ pub no : {A : Type 0} → (A → ⊥) → (false ≡ true) ↔ A
 no h = (λ e. absurd (false≢true e), λ a. absurd (h a))
 
 -- ---- the loops
--- one place more whose set does not lie within the given one
-pub apart_more : (side : ℕ → ℕ) (place set : ℕ) {other : ℕ} → other ≡ side place → (bit_and set other ≡ other → ⊥) → Apart side place set
-    → Apart side (place + 1) set
-unfolding holds
-apart_more side place set here e before =
-    below_more (λ (j : ℕ). holds set (side j) ≡ false) place before (rw (← here) (ne_eqb (bit_and set _) _ e))
+-- a test on one, folded, does not hold exactly if the contrary holds of each
+pub none_of : (p : ℕ → Bool) (any : Bool) (xs : List ℕ) → not (fold (λ any x. any || p x) any xs) ≡ (not any && list_all (λ x. not (p x)) xs)
+none_of p true [] = refl
+none_of p false [] = refl
+none_of p true (x ∷ xs) = none_of p true xs
+none_of p false (x ∷ xs) = none_of p (p x) xs
 
--- one that does
-pub not-apart : (side : ℕ → ℕ) (place set j : ℕ) {other : ℕ} → j < place → other ≡ side j → bit_and set other ≡ other → Apart side place set → ⊥
-unfolding holds
-not-apart side place set j l here e apart = clash (eq-eqb (bit_and set (side j)) (side j) (rw here at e)) (apart j l)
+-- the first sets of a list, each
+pub none_first : (sets : List ℕ) (set k : ℕ) → k ≤ length sets → none_within (take k sets) set ≡ all_below (λ j. not (holds set (get_or sets j 0))) k
+unfolding all_below holds
+none_first sets set zero l = refl
+none_first sets set (suc k) l =
+    rw (add-one k) at (list_all_more (λ other. not (eqb (bit_and set other) other)) sets k 0 (omega arith)) ∙ rw (none_first sets set k (omega arith))
+
+-- those of a side, loaded
+module _ (side : ℕ → ℕ) (set k : ℕ) (l : k ≤ 8) {sets : List ℕ} (loaded : sets ≡ eight side) {b : Bool} (e : b ≡ none_within (take k sets) set) where
+  tested : b ≡ all_below (λ j. not (holds set (get_or (eight side) j 0))) k
+  tested = e ∙ rw loaded (none_first (eight side) set k l)
+
+  pub is_apart : b ≡ true → Apart side k set
+  is_apart t j m = rw (at_place side j (omega arith)) at (not-true _ (all-below _ k (sym tested ∙ t) j m))
+
+  pub apart_is : Apart side k set → b ≡ true
+  apart_is apart = tested ∙ below_all _ k (λ j m. rw (at_place side j (omega arith)) (ap not (apart j m)))
 
 -- the first sets of a side, as many as the count says, follow one another
 abbrev pub Orderly : (ℕ → ℕ) → ℕ → Type 0
@@ -195,29 +214,20 @@ each_byte_lem : (l : List ℕ) → ((i : ℕ) → get_or l i 0 < 256) → AreByt
 each_byte_lem [] h = tt
 each_byte_lem (x ∷ l) h = (h 0, each_byte_lem l (λ i. h (suc i)))
 
--- the side at the first place is that of the read sets, and the one at the ninth that of the write sets
-pub reads_from : (c : List ℕ) → side_from c 0 ≡ read_set c
-unfolding read_set
-reads_from c = fun_ext (λ k. ap (set_at c) (zero-add k))
-
-pub writes_from : (c : List ℕ) → side_from c 8 ≡ write_set c
-unfolding write_set
-writes_from c = refl
-
 module _ (n : ℕ) (c : List ℕ) (v : valid n c ≡ true) where
   abbrev facts : Valid n c
   facts = (promise.valid_exactly n c).0 v
 
-  pub in_form : ((i : ℕ) → get_or c i 0 < 256) → InForm (side_from c 0) → InForm (side_from c 8) → standard_form 16 c ≡ c
+  pub in_form : ((i : ℕ) → get_or c i 0 < 256) → InForm (read_set c) → InForm (write_set c) → standard_form 16 c ≡ c
   in_form b reads writes =
       sym (form_any n c v)
-      ∙ own_config n c v (each_byte_lem c b) _ _ (formed n (read_set c) facts.reads (transport (ap InForm (reads_from c)) reads))
-      (formed n (write_set c) facts.writes (transport (ap InForm (writes_from c)) writes))
+      ∙ own_config n c v (each_byte_lem c b) _ _ (formed n (read_set c) facts.reads reads)
+      (formed n (write_set c) facts.writes writes)
 
-  pub reads_in_form : standard_form 16 c ≡ c → InForm (side_from c 0)
+  pub reads_in_form : standard_form 16 c ≡ c → InForm (read_set c)
   reads_in_form own =
-      transport (ap InForm (sym (reads_from c))) (filled_form n (read_set c) _ facts.reads (reads_filled n c v (form_any n c v ∙ own)))
+      filled_form n (read_set c) _ facts.reads (reads_filled n c v (form_any n c v ∙ own))
 
-  pub writes_in_form : standard_form 16 c ≡ c → InForm (side_from c 8)
+  pub writes_in_form : standard_form 16 c ≡ c → InForm (write_set c)
   writes_in_form own =
-      transport (ap InForm (sym (writes_from c))) (filled_form n (write_set c) _ facts.writes (writes-filled n c v (form_any n c v ∙ own)))
+      filled_form n (write_set c) _ facts.writes (writes-filled n c v (form_any n c v ∙ own))

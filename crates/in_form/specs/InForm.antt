@@ -1,11 +1,14 @@
 -- What the test of a side comes to; nobody has to believe it, since `is_form` is held to `standard_form`.
-use Rattle.std.specs.Prelude.{◌≡◌, false, List, ℕ, ◌+◌, ◌-◌, ◌≤◌, ◌<◌}
+use Rattle.std.specs.Prelude.{◌≡◌, Bool, false, not, ◌||◌, List, ℕ, ◌-◌, ◌≤◌, ◌<◌, eqb, bit_and, fold}
+use Rattle.std.specs.List.{list_all}
 use Rattle.quorum.specs.Sets.{holds}
-use Rattle.quorum.specs.Configurations.{set_at}
 
--- the side that starts at a place of a configuration
-abbrev pub side_from : List ℕ → ℕ → ℕ → ℕ
-side_from config at k = set_at config (at + k)
+-- one of the sets of a list lies within the set; none does
+abbrev pub any_within : List ℕ → ℕ → Bool
+any_within others set = fold (λ any other. any || eqb (bit_and set other) other) false others
+
+abbrev pub none_within : List ℕ → ℕ → Bool
+none_within others set = list_all (λ other. not (eqb (bit_and set other) other)) others
 
 -- no set of a side before a place lies within the set
 abbrev pub Apart : (ℕ → ℕ) → ℕ → ℕ → Type 0

@@ -1,42 +1,45 @@
 // Whether a configuration is in its standard form already (document 02, 2026-06): most are, and need no work then.
 #![tactic(auto)]
 
-ghost use Rattle.std.specs.Prelude.{◌≡◌, true, ◌↔◌, ℕ, ◌+◌, ◌<◌, ◌≤◌, length};
-ghost use Rattle.quorum.specs.Configurations.{config_size, valid};
+ghost use Rattle.std.specs.Prelude.{◌≡◌, true, ◌↔◌, ℕ};
+ghost use Rattle.quorum.specs.Configurations.{side_sets, valid};
 ghost use Rattle.form.specs.Form.{standard_form};
-ghost use Rattle.in_form.specs.InForm.{side_from, Apart, InForm};
+ghost use Rattle.in_form.specs.InForm.{any_within, none_within, InForm};
 
-use sets::load_set;
+use quorum::{CONFIG_SIZE, SIDE_SIZE, Side};
+use sets::load_side;
 
-// Whether no set of a side before a place lies within the set.
-fn none_before(config: &[u8], side: usize, place: usize, set: u16) -> bool
-    requires { (side ≤ 8) × (place ≤ 8) × (length config.now ≡ config_size) }
-    ensures { (result ≡ true) ↔ Apart (side_from config.now side) place set }
+// Whether one of the sets lies within the set. No branch: sets come in any order, so it would often be foreseen wrongly.
+fn any_within(others: &[u16], set: u16) -> bool
+    ensures { result ≡ any_within others.now set }
 {
-    for j in 0..place {
-        let other = load_set(config, side + j);
-        if set & other == other {
-            return false;
-        }
-    }
-    true
+    others
+        .iter()
+        .fold(false, |any, other| any | (set & *other == *other))
+}
+
+// Whether none of the sets lies within the set.
+pub fn none_within(others: &[u16], set: u16) -> bool
+    ensures { result ≡ none_within others.now set }
+{
+    !any_within(others, set)
 }
 
 // Whether a side is in its form: its sets rise, and none lies within a later one. An unused place ends a valid side.
-fn side_in_form(config: &[u8], side: usize) -> bool
-    requires { (side ≤ 8) × (length config.now ≡ config_size) }
-    ensures { (result ≡ true) ↔ InForm (side_from config.now side) }
+fn side_in_form(config: &[u8; CONFIG_SIZE], side: Side) -> bool
+    ensures { (result ≡ true) ↔ InForm (side_sets side config.now) }
 {
-    let mut last = load_set(config, side);
-    for k in 1..8usize {
-        let set = load_set(config, side + k);
+    let sets = load_side(config, side);
+    let mut last = sets[0];
+    for k in 1..SIDE_SIZE {
+        let set = sets[k];
         if set == 0 {
             return true;
         }
         if set <= last {
             return false;
         }
-        if !none_before(config, side, k, set) {
+        if !none_within(&sets[..k], set) {
             return false;
         }
         last = set;
@@ -45,12 +48,9 @@ fn side_in_form(config: &[u8], side: usize) -> bool
 }
 
 // Whether a valid configuration is its own standard form as it is given.
-pub fn is_form(config: &[u8]) -> bool
+pub fn is_form(config: &[u8; CONFIG_SIZE]) -> bool
     requires { (n : ℕ) × (valid n config.now ≡ true) }
     ensures { (result ≡ true) ↔ (standard_form 16 config.now ≡ config.now) }
 {
-    if !side_in_form(config, 0) {
-        return false;
-    }
-    side_in_form(config, 8)
+    side_in_form(config, Side::Read) && side_in_form(config, Side::Write)
 }

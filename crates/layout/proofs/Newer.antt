@@ -4,7 +4,7 @@ use mathlib.Core.Path.{◌≡◌, refl, ap}
 use mathlib.Core.Bool.{Bool, true, false, cond}
 use mathlib.Core.List.{List, []}
 use mathlib.Core.Logic.{◌↔◌}
-use mathlib.Core.Option.{Option, none, some}
+use Rattle.std.specs.Prelude.{Option, None, Some}
 use Prim.Native.Nat.{ℕ, zero, suc, ◌≤◌, ◌<◌}
 use native.Mathlib.Nat.{not-suc-le-zero, le_antisymm}
 use native.Mathlib.Omega.{arith}
@@ -12,7 +12,6 @@ use lib.Dec.{ltb}
 use borrow.Author.Tests.{ltb-true, ltb-false}
 use Rattle.quorum.specs.Sets.{member, within}
 use Rattle.quorum.specs.Configurations.{first_read, place_figure, is_place, holds_read}
-use Rattle.quorum.specs.declared.Place.{Place}
 use Rattle.basics.proofs.Tests.{clash, below_suc, either}
 use Rattle.quorum.proofs.Promise.{promise}
 use Rattle.layout.specs.Fields.{Copy}
@@ -22,8 +21,8 @@ use Rattle.layout.specs.View.{CopyBy}
 
 -- what `newest` gives
 abbrev pub Gives : (ℕ → ℕ) → ℕ → ℕ → Option ℕ → Type 0
-Gives key set n none = (s : ℕ) → s < n → member set s ≡ false
-Gives key set n (some b) = IsNewest key set n b
+Gives key set n None = (s : ℕ) → s < n → member set s ≡ false
+Gives key set n (Some b) = IsNewest key set n b
 
 module _ (key : ℕ → ℕ) (set : ℕ) where
   -- one more station: it is the newest if its key is greater, or if it is the first in the set
@@ -52,16 +51,16 @@ module _ (key : ℕ → ℕ) (set : ℕ) where
   is_newest (suc k) = go (newest key set k) (is_newest k) (member set k) refl
     where
       pick : (b : ℕ) → IsNewest key set k b → member set k ≡ true → (t : Bool) → ltb (key b) (key k) ≡ t
-          → Gives key set (suc k) (cond t (some k) (some b))
+          → Gives key set (suc k) (cond t (Some k) (Some b))
       pick b h m true e =
           let l = ltb-true (key b) (key k) e in later k m (λ s hs p. let g = h.greatest s hs p in omega arith)
       pick b h m false e = kept k b h (λ p. ltb-false (key b) (key k) e)
 
       go : (o : Option ℕ) → Gives key set k o → (t : Bool) → member set k ≡ t → Gives key set (suc k) (cond t (newer key k o) o)
-      go none h true m = later k m (λ s hs p. clash p (h s hs))
-      go none h false m = below_suc (λ (s : ℕ). member set s ≡ false) k h m
-      go (some b) h true m = pick b h m (ltb (key b) (key k)) refl
-      go (some b) h false m = kept k b h (λ p. clash p m)
+      go None h true m = later k m (λ s hs p. clash p (h s hs))
+      go None h false m = below_suc (λ (s : ℕ). member set s ≡ false) k h m
+      go (Some b) h true m = pick b h m (ltb (key b) (key k)) refl
+      go (Some b) h false m = kept k b h (λ p. clash p m)
 
   module _ (n : ℕ) where
     -- there is one newest: of two, neither is the lower
@@ -74,20 +73,20 @@ module _ (key : ℕ → ℕ) (set : ℕ) where
     pub same_newest : (a b : ℕ) → IsNewest key set n a → IsNewest key set n b → a ≡ b
     same_newest a b p q = le_antisymm (not_lower b a q p) (not_lower a b p q)
 
-    pub newest_is : (b : ℕ) → IsNewest key set n b → newest key set n ≡ some b
+    pub newest_is : (b : ℕ) → IsNewest key set n b → newest key set n ≡ Some b
     newest_is b h = go (newest key set n) (is_newest n)
       where
-        go : (o : Option ℕ) → Gives key set n o → o ≡ some b
-        go none f = clash h.in_set (f b h.station)
-        go (some a) f = ap some (same_newest a b f h)
+        go : (o : Option ℕ) → Gives key set n o → o ≡ Some b
+        go None f = clash h.in_set (f b h.station)
+        go (Some a) f = ap Some (same_newest a b f h)
 
     -- with a station of the set there is a newest
     pub some_newest : (s : ℕ) → s < n → member set s ≡ true → (b : ℕ) × IsNewest key set n b
     some_newest s l m = go (newest key set n) (is_newest n)
       where
         go : (o : Option ℕ) → Gives key set n o → (b : ℕ) × IsNewest key set n b
-        go none f = clash m (f s l)
-        go (some b) f = (b, f)
+        go None f = clash m (f s l)
+        go (Some b) f = (b, f)
 
 -- the statement of specs/Newest.antt
 pub newest_exactly : NewestExactly
@@ -97,12 +96,12 @@ newest_exactly =
       nobody = λ key set n. (λ e. rw e at (is_newest key set n), nobody key set n);
     }
   where
-    nobody : (key : ℕ → ℕ) (set n : ℕ) → ((s : ℕ) → s < n → member set s ≡ false) → newest key set n ≡ none
+    nobody : (key : ℕ → ℕ) (set n : ℕ) → ((s : ℕ) → s < n → member set s ≡ false) → newest key set n ≡ None
     nobody key set n h = go (newest key set n) (is_newest key set n)
       where
-        go : (o : Option ℕ) → Gives key set n o → o ≡ none
-        go none f = refl
-        go (some b) f = clash f.in_set (h b f.station)
+        go : (o : Option ℕ) → Gives key set n o → o ≡ None
+        go None f = refl
+        go (Some b) f = clash f.in_set (h b f.station)
 
 -- ---- the station found, as a figure; in a set of stations below n there is none exactly if the set is empty
 module _ (key : ℕ → ℕ) (set n : ℕ) where
@@ -110,8 +109,8 @@ module _ (key : ℕ → ℕ) (set n : ℕ) where
   station_shown s = go (newest key set n) (is_newest key set n)
     where
       go : (o : Option ℕ) → Gives key set n o → (station_figure o ≡ suc s) ↔ IsNewest key set n s
-      go none f = (λ z. absurd (omega (arith, z)), λ h. clash h.in_set (f s h.station))
-      go (some b) f = (
+      go None f = (λ z. absurd (omega (arith, z)), λ h. clash h.in_set (f s h.station))
+      go (Some b) f = (
         λ z. let q : b ≡ s = omega (arith, z) in rw q at f,
         λ h. let q = same_newest key set n b s f h in omega (arith, q),
       )
@@ -120,18 +119,18 @@ module _ (key : ℕ → ℕ) (set n : ℕ) where
   none_shown inside = go (newest key set n) (is_newest key set n)
     where
       go : (o : Option ℕ) → Gives key set n o → (station_figure o ≡ 0) ↔ (set ≡ 0)
-      go none f = (
+      go None f = (
         λ z. promise.same_members set 0 (λ i m. clash m (f i (promise.within_member n set i inside m))) (λ i m. clash m (promise.member_empty i)),
         λ z. refl,
       )
-      go (some b) f = (λ z. absurd (omega (arith, z)), λ z. clash (rw z at f.in_set) (promise.member_empty b))
+      go (Some b) f = (λ z. absurd (omega (arith, z)), λ z. clash (rw z at f.in_set) (promise.member_empty b))
 
   pub station_fits : station_figure (newest key set n) ≤ n
   station_fits = go (newest key set n) (is_newest key set n)
     where
       go : (o : Option ℕ) → Gives key set n o → station_figure o ≤ n
-      go none f = omega arith
-      go (some b) f = let l = f.station in omega arith
+      go None f = omega arith
+      go (Some b) f = let l = f.station in omega arith
 
 -- ---- the copies that it gives
 module _ (copies : ℕ → Copy) (set n : ℕ) where
@@ -142,7 +141,7 @@ module _ (copies : ℕ → Copy) (set n : ℕ) where
       config : List ℕ
       config = (by_generation copies set n).config
 
-      place : Place
+      place : Option ℕ
       place = first_read config set
 
       go : (x : ℕ) → place_figure place ≡ x → x ≤ 8
@@ -185,8 +184,8 @@ module _ (copies : ℕ → Copy) (set n : ℕ) where
   heard_finds e = go (newest (λ s. (copies s).generation) set n) (is_newest (λ s. (copies s).generation) set n) e
     where
       go : (o : Option ℕ) → Gives (λ s. (copies s).generation) set n o → holds_read (copy_or copies o).config set ≡ true → Finds
-      go none f h = clash h (promise.short_read [] set (λ z. absurd (omega arith)))
-      go (some s) f h = finds s f.station f.in_set
+      go None f h = clash h (promise.short_read [] set (λ z. absurd (omega arith)))
+      go (Some s) f h = finds s f.station f.in_set
 
 -- ---- only the stations below n are looked at
 module _ (key key' : ℕ → ℕ) (set : ℕ) where
@@ -196,8 +195,8 @@ module _ (key key' : ℕ → ℕ) (set : ℕ) where
   newest_same (suc k) e = rw (newest_same k (λ s l. e s (omega arith)), newer_same (newest key' set k) (is_newest key' set k))
     where
       newer_same : (o : Option ℕ) → Gives key' set k o → newer key k o ≡ newer key' k o
-      newer_same none h = refl
-      newer_same (some b) h = let l = h.station in rw (e b (omega arith), e k (omega arith))
+      newer_same None h = refl
+      newer_same (Some b) h = let l = h.station in rw (e b (omega arith), e k (omega arith))
 
 -- two rows of copies that are related, one by one, give copies that are: the newest by a field in which related copies agree
 found_related : (R : Copy → Copy → Type 0) → R no_copy no_copy → (field : Copy → ℕ) → ((c d : Copy) → R c d → field c ≡ field d)
@@ -208,8 +207,8 @@ found_related R nobody field agree cs ds set n e =
     (go (newest (λ s. field (ds s)) set n) (is_newest (λ s. field (ds s)) set n))
   where
     go : (o : Option ℕ) → Gives (λ s. field (ds s)) set n o → R (copy_or cs o) (copy_or ds o)
-    go none h = nobody
-    go (some b) h = e b h.station
+    go None h = nobody
+    go (Some b) h = e b h.station
 
 -- the same numbers, and related configurations
 module _ (R : List ℕ → List ℕ → Type 0) (itself : (c : List ℕ) → R c c) (cs ds : ℕ → Copy) (set n : ℕ)

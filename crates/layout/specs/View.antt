@@ -1,8 +1,6 @@
 -- What the rules know of a table: the numbers and figures of the replies speak of this state alone, and of no offset.
-use Rattle.std.specs.Prelude.{◌≡◌, Bool, List, ℕ, ◌<◌, length, eqb}
-use Rattle.std.proofs.Math.Option.{Option}
+use Rattle.std.specs.Prelude.{◌≡◌, Bool, List, ℕ, ◌<◌, length, eqb, Option}
 use Rattle.quorum.specs.Sets.{full, minus}
-use Rattle.quorum.specs.declared.Place.{Place}
 use Rattle.layout.specs.Layout.{table_length}
 use Rattle.layout.specs.Newest.{version_station, by_version, by_generation, heard_place, hears}
 use Rattle.layout.specs.Fields.{Copy, Round, stations, items, off_set, round_of, copy_of}
@@ -82,7 +80,7 @@ abbrev pub version_from : State → Option ℕ
 version_from v = version_station (own v) v.round.polled v.n
 
 -- the first read place held, and whether there is one
-abbrev pub read_place : State → Place
+abbrev pub read_place : State → Option ℕ
 read_place v = heard_place (own v) v.round.polled v.n
 
 abbrev pub heard : State → Bool

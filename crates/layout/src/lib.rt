@@ -1,4 +1,5 @@
-// The bytes of the table: definitions and laws. What the code has of them are the sizes, the places and the kinds, by name.
+// The bytes of the table: definitions and laws. What the code has of them are the sizes, the places, the kinds of a round and
+// the sorts of a put, by name.
 #![tactic(auto)]
 
 // The head: its size, and where its fields stand.
@@ -42,11 +43,17 @@ pub const COPY_CONFIG_AT: usize = 24;
 // The length of the largest table.
 pub const LARGEST: usize = 28728;
 
-// The kinds of a round, as its byte has them.
-pub const NO_ROUND: u8 = 0;
+// The kinds of a round, with the numbers that its byte has; with no round the byte is 0.
+#[derive(Clone, Copy, PartialEq, Eq)]
+pub enum Kind {
+    Read = 1,
+    Write = 2,
+    Change = 3,
+}
 
-pub const READ: u8 = 1;
-
-pub const WRITE: u8 = 2;
-
-pub const CHANGE: u8 = 3;
+// The sorts of a put, with the numbers that the calls are given.
+#[derive(Clone, Copy, PartialEq, Eq)]
+pub enum Sort {
+    Data = 1,
+    Configuration = 2,
+}

@@ -5,9 +5,12 @@ use mathlib.Core.List.{List, [], ◌∷◌, ◌++◌, append-nil}
 use Prim.Native.Nat.{ℕ, suc, ◌+◌, ◌-◌, ◌≤◌, ◌<◌}
 use native.Mathlib.Omega.{arith}
 use lib.Dec.{eqb}
+use Rattle.std.specs.Prelude.{Some, None, ◌==◌, nat_lt, position}
+use Rattle.std.specs.List.{position_or_len}
+use Rattle.std.proofs.lemmas.List.Recursion.{is_position_or_len}
 use lib.ListN.{length, take, drop, length-drop}
-use lib.Seq.{append_snoc}
-use borrow.Author.Tests.{eqb-true, eqb-false, ne_eqb}
+use lib.Seq.{append_snoc, take_all}
+use borrow.Author.Tests.{eqb-true, eqb-false, ne_eqb, ltb-true, ltb-false}
 use Rattle.basics.proofs.Tests.{by_cases}
 use Rattle.replies.specs.ReplyLine.{line_end}
 use Rattle.runs.specs.Session.{table_after, printed}
@@ -74,6 +77,44 @@ lead_end (b ∷ xs) h =
     → take (length (cond e [] (b ∷ lead xs)) + 1) (b ∷ xs) ≡ cond e [] (b ∷ lead xs) ++ (line_end ∷ [])) (eqb b line_end)
     (λ _ e q. ap (λ x. x ∷ []) (eqb-true b line_end e)) (λ _ e q. rw n (ap (λ l. b ∷ l) (lead_end xs (omega arith)))) refl h
 
+-- ---- the place of the first line end, if there is one
+lead_is : (xs : List ℕ) → length (lead xs) ≡ position_or_len (λ b. b == line_end) xs
+unfolding lead
+lead_is xs =
+    is_position_or_len (λ l. length (lead l)) (λ b. b == line_end) refl
+    (λ x l.
+    by_cases (λ (e : Bool). length (cond e [] (x ∷ lead l)) ≡ cond e 0 (1 + length (lead l))) (eqb x line_end) (λ _. refl) (λ _. omega arith)) xs
+
+module _ (piece : List ℕ) (at : ℕ) (within : at ≤ length piece) where
+  -- the rest of the piece, lent as a part
+  pub rest_is : take (length piece - at) (drop at piece) ≡ drop at piece
+  rest_is = take_all (length piece - at) (drop at piece) (simp length-drop (omega arith))
+
+  pub end_at : {n : ℕ} → Some n ≡ position (λ b. b == line_end) (drop at piece) → (at + n ≡ end_from piece at) × (at + n < length piece)
+  unfolding end_from
+  end_at {n} e =
+      let rest = drop at piece in
+      let p = position_or_len (λ b. b == line_end) rest in
+      by_cases
+      (λ (b : Bool). nat_lt p (length rest) ≡ b → Some n ≡ cond b (Some p) None → (at + n ≡ at + length (lead rest)) × (at + n < length piece))
+      (nat_lt p (length rest))
+      (λ _ d q.
+      let same : n ≡ p = cc in
+      let less : p < length rest = ltb-true _ _ d in
+      (rw (lead_is rest, same), omega (arith, length-drop at piece)))
+      (λ _ d q. let no : ⊥ = cc in absurd no) refl e
+
+  pub no_end : None ≡ position (λ b. b == line_end) (drop at piece) → length piece ≡ end_from piece at
+  unfolding end_from
+  no_end e =
+      let rest = drop at piece in
+      let p = position_or_len (λ b. b == line_end) rest in
+      by_cases (λ (b : Bool). nat_lt p (length rest) ≡ b → None ≡ cond b (Some p) None → length piece ≡ at + length (lead rest)) (nat_lt p (length rest))
+      (λ _ d q. let no : ⊥ = cc in absurd no)
+      (λ _ d q.
+      let most : length rest ≤ p = ltb-false _ _ d in
+      omega (arith, lead_is rest, lead-length rest, length-drop at piece)) refl e
+
 -- ---- the stretch from a place of a piece to the end that the search finds; the line so far is one that a runner keeps
 module _ (piece : List ℕ) (at end : ℕ) (found : end ≡ end_from piece at) where
   to_end : stretch piece at end ≡ lead (drop at piece)
@@ -92,10 +133,6 @@ module _ (piece : List ℕ) (at end : ℕ) (found : end ≡ end_from piece at) w
   pub end_forward : at ≤ end
   unfolding end_from
   end_forward = omega (arith, found)
-
-  pub end_within : at ≤ length piece → end ≤ length piece
-  unfolding end_from
-  end_within h = omega (arith, found, lead-length (drop at piece), length-drop at piece)
 
   module _ (t line : List ℕ) where
     -- up to a line end, which answers the line

@@ -2,13 +2,16 @@
 #![tactic(auto)]
 
 ghost use Rattle.std.specs.Prelude.{◌≡◌, cond, ◌<◌};
-ghost use Rattle.layout.specs.Fields.{copies_of};
 ghost use Rattle.layout.specs.Newest.{version_station, generation_station};
 ghost use Rattle.layout.specs.Walk.{onward, walk, walked_version, walked_generation};
-ghost use Rattle.table.specs.ItemCopies.{InTable};
 ghost use Rattle.newest.specs.Walks.{as_walked, as_option};
+ghost use Rattle.newest.specs.Seen.{seen};
 
-use table::copy::{Generation, Version, address, config_at, generation_at, version_at};
+pub mod copies;
+
+use copies::Copies;
+use sets::Stations;
+use table::copy::{Generation, Version, config_at, generation_at, version_at};
 
 // What the walk carries: the stations of the newest copies, and the counters by which they are the newest.
 #[derive(Clone, Copy)]
@@ -19,23 +22,16 @@ pub struct Newest {
     pub generation: Generation,
 }
 
-// What the walk has found; nobody, where there is no station.
-#[derive(Clone, Copy)]
-pub enum Found {
-    Copies(Newest),
-    Nobody,
-}
-
-impl Found {
+impl Newest {
     // The walk comes to station s: by each counter it takes the place of the newest so far if its own is greater.
-    pub fn onward(self, t: &[u8], n: usize, item: usize, s: usize) -> Newest
-        requires { InTable t.now n item × (s < n) }
-        ensures { as_walked result ≡ onward (copies_of t.now n item) s (as_option self) }
+    pub fn onward(found: Option<Newest>, copies: Copies, s: usize) -> Newest
+        requires { s < copies.n }
+        ensures { as_walked result ≡ onward (seen copies.entry) s (as_option found) }
     {
-        let at = address(n, item, s);
-        let version = version_at(t, at);
-        let generation = generation_at(t, at);
-        let Found::Copies(best) = self else {
+        let at = copies.address(s);
+        let version = version_at(copies.table, at);
+        let generation = generation_at(copies.table, at);
+        let Some(best) = found else {
             return Newest {
                 by_version: s,
                 version,
@@ -44,10 +40,10 @@ impl Found {
             };
         };
         Newest {
-            by_version: newer(version.is_newer(best.version), s, best.by_version),
-            version: best.version.or_newer(version),
-            by_generation: newer(generation.is_newer(best.generation), s, best.by_generation),
-            generation: best.generation.or_newer(generation),
+            by_version: newer(best.version < version, s, best.by_version),
+            version: best.version.max(version),
+            by_generation: newer(best.generation < generation, s, best.by_generation),
+            generation: best.generation.max(generation),
         }
     }
 }
@@ -62,32 +58,27 @@ fn newer(is_newer: bool, s: usize, best: usize) -> usize
     best
 }
 
-// The walk over the stations of the set below n, the lowest first: what the two searches would find, each by itself.
-pub fn walk(t: &[u8], n: usize, item: usize, set: u16) -> Found
-    requires { InTable t.now n item }
-    ensures walked { as_option result ≡ walk (copies_of t.now n item) set n }
-    ensures version { walked_version (as_option result) ≡ version_station (copies_of t.now n item) set n }
-    ensures generation { walked_generation (as_option result) ≡ generation_station (copies_of t.now n item) set n }
+// The walk over the stations of the set below n, the lowest first: what the two searches would find, each by itself; nothing, where there
+// is no station.
+pub fn walk(copies: Copies, set: u16) -> Option<Newest>
+    ensures walked { as_option result ≡ walk (seen copies.entry) set copies.entry.n }
+    ensures version { walked_version (as_option result) ≡ version_station (seen copies.entry) set copies.entry.n }
+    ensures generation { walked_generation (as_option result) ≡ generation_station (seen copies.entry) set copies.entry.n }
 {
-    let mut found = Found::Nobody;
-    let mut rest = set;
-    while rest != 0 {
-        let s = sets::lowest(rest);
-        if n <= s {
+    let mut found = None;
+    for s in Stations(set) {
+        if copies.n <= s {
             return found;
         }
-        let newest = found.onward(t, n, item, s);
-        found = Found::Copies(newest);
-        rest = sets::without_lowest(rest);
+        found = Some(Newest::onward(found, copies, s));
     }
     found
 }
 
 // The configuration of the newest copy by generation.
-pub fn config_found(t: &[u8], n: usize, item: usize, newest: Newest) -> &[u8]
-    requires { InTable t.now n item × (newest.by_generation < n) }
-    ensures { result.now ≡ (copies_of t.now n item newest.by_generation).config }
+pub fn config_found<'a>(copies: Copies<'a>, newest: Newest) -> &'a [u8]
+    requires { newest.by_generation < copies.n }
+    ensures { result.now ≡ (seen copies.entry newest.by_generation).config }
 {
-    let g = newest.by_generation;
-    config_at(t, address(n, item, g))
+    config_at(copies.table, copies.address(newest.by_generation))
 }

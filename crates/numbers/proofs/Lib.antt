@@ -1,1 +1,1 @@
-pub mod Refusals
+pub mod Chains

@@ -1,5 +1,5 @@
 -- What the code's test of validity comes to: its pairs of filled places, and its four sets in one number.
-use mathlib.Core.Path.{◌≡◌, refl, sym, ap, ◌∙◌, fun_ext}
+use mathlib.Core.Path.{◌≡◌, refl, sym, ap, ◌∙◌}
 use mathlib.Core.Bool.{Bool, true, false, not, cond, ◌&&◌}
 use mathlib.Core.List.{List}
 use mathlib.Core.Logic.{◌⊎◌, inl, inr, ⊎_elim}
@@ -10,9 +10,10 @@ use lib.ListN.{length, get_or}
 use lib.Dec.{eqb, ltb}
 use lib.Bits.{bit_and, bit_or, or_add_and, and_le_r, or_zero_l, and_block}
 use borrow.Author.Tests.{eq-eqb, ne_eqb, eqb-true, eqb-false, ltb-true, ltb-false, lt-ltb, not-true, not-false}
+use Rattle.basics.specs.Tests.{all_below}
 use Rattle.quorum.specs.Sets.{member, used, holds, shares, within, minus, full}
 use Rattle.quorum.specs.Configurations.{set_at, read_set, write_set, valid, config_size}
-use Rattle.pairs.specs.Pairs.{filled, filled_side, row_ok, pairs_ok, four, FourFit, outside_of, four_within}
+use Rattle.pairs.specs.Pairs.{filled, filled_side, pairs_ok, four, FourFit, outside_of, four_within}
 use Rattle.quorum.specs.Promise.{Side, Valid}
 use Rattle.basics.proofs.Tests.{clash, fails, same_test, and_left, and_right, and_both, all-below, below_all, either}
 use Rattle.quorum.proofs.Promise.{promise}
@@ -55,25 +56,17 @@ after side k = cond (eqb k 7) 0 (side (suc k))
 abbrev place : (ℕ → ℕ) → ℕ → ℕ
 place side k = filled (side k) (after side k)
 
-filled_at : (c : List ℕ) (s k : ℕ) → k < 8 → get_or (filled_side c s) k 0 ≡ place (λ j. set_at c (s + j)) k
+filled_at : (side : ℕ → ℕ) (k : ℕ) → k < 8 → get_or (filled_side side) k 0 ≡ place side k
 unfolding filled_side
-filled_at c s zero l = rw (add-zero s)
-filled_at c s (suc zero) l = refl
-filled_at c s (suc (suc zero)) l = refl
-filled_at c s (suc (suc (suc zero))) l = refl
-filled_at c s (suc (suc (suc (suc zero)))) l = refl
-filled_at c s (suc (suc (suc (suc (suc zero))))) l = refl
-filled_at c s (suc (suc (suc (suc (suc (suc zero)))))) l = refl
-filled_at c s (suc (suc (suc (suc (suc (suc (suc zero))))))) l = refl
-filled_at c s (suc (suc (suc (suc (suc (suc (suc (suc k)))))))) l = absurd (omega arith)
-
-reads_at : (c : List ℕ) (k : ℕ) → k < 8 → get_or (filled_side c 0) k 0 ≡ place (read_set c) k
-unfolding read_set
-reads_at c k l = filled_at c 0 k l ∙ ap (λ side. place side k) (fun_ext (λ j. ap (set_at c) (zero-add j)))
-
-writes_at : (c : List ℕ) (k : ℕ) → k < 8 → get_or (filled_side c 8) k 0 ≡ place (write_set c) k
-unfolding write_set
-writes_at c k l = filled_at c 8 k l
+filled_at side zero l = refl
+filled_at side (suc zero) l = refl
+filled_at side (suc (suc zero)) l = refl
+filled_at side (suc (suc (suc zero))) l = refl
+filled_at side (suc (suc (suc (suc zero)))) l = refl
+filled_at side (suc (suc (suc (suc (suc zero))))) l = refl
+filled_at side (suc (suc (suc (suc (suc (suc zero)))))) l = refl
+filled_at side (suc (suc (suc (suc (suc (suc (suc zero))))))) l = refl
+filled_at side (suc (suc (suc (suc (suc (suc (suc (suc k)))))))) l = absurd (omega arith)
 
 -- a place that has a member has no gap behind it
 no_gap : (side : ℕ → ℕ) (k : ℕ) → k < 7 → (i : ℕ) → member (place side k) i ≡ true → used (side (suc k)) ≡ true → used (side k) ≡ true
@@ -108,17 +101,20 @@ module _ (c : List ℕ) where
   abbrev Pairs : Type 0
   Pairs = (j k : ℕ) → j < 8 → k < 8 → shares (place (read_set c) j) (place (write_set c) k) ≡ true
 
+  by_places : pairs_ok c ≡ all_below (λ j. all_below (λ k. shares (get_or (filled_side (read_set c)) (7 - j) 0) (get_or (filled_side (write_set c)) k 0)) 8) 8
+  unfolding filled_side all_below
+  by_places = refl
+
   pairs-all : pairs_ok c ≡ true → Pairs
-  unfolding pairs_ok row_ok
   pairs-all e j k h l =
-      let row = all-below _ 8 e (7 - j) (omega arith) in
+      let row = all-below _ 8 (sym by_places ∙ e) (7 - j) (omega arith) in
       let q : 7 - (7 - j) ≡ j = omega arith in
-      rw (q, reads_at c j h) at (rw (writes_at c k l) at (all-below _ 8 row k l))
+      rw (q, filled_at (read_set c) j h) at (rw (filled_at (write_set c) k l) at (all-below _ 8 row k l))
 
   all-pairs : Pairs → pairs_ok c ≡ true
-  unfolding pairs_ok row_ok
   all-pairs f =
-      below_all _ 8 (λ j h. below_all _ 8 (λ k l. rw (reads_at c (7 - j) (omega arith), writes_at c k l) (f (7 - j) k (omega arith) l)))
+      by_places ∙ below_all _ 8 (λ j h. below_all _ 8 (λ k l.
+      rw (filled_at (read_set c) (7 - j) (omega arith), filled_at (write_set c) k l) (f (7 - j) k (omega arith) l)))
 
   module _ (n : ℕ) (v : Valid n c) (j k : ℕ) (h : j < 8) (l : k < 8) where
     abbrev r : ℕ

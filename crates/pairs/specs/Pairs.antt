@@ -1,9 +1,8 @@
 -- How the code tests whether one configuration is valid. Not for the crates above: a reader needs `valid`, to which `config_ok` is proved equal.
-use Rattle.std.specs.Prelude.{Bool, cond, ◌&&◌, List, [], ◌∷◌, ℕ, ◌+◌, ◌-◌, ◌*◌, ◌<◌, get_or, eqb}
+use Rattle.std.specs.Prelude.{Bool, true, cond, fold, reverse, ◌&&◌, List, [], ◌∷◌, ℕ, ◌+◌, ◌-◌, ◌*◌, ◌<◌, eqb}
 use Rattle.std.specs.Int.Bits.{bit_or}
-use Rattle.basics.specs.Tests.{all_below}
 use Rattle.quorum.specs.Sets.{shares, within, full}
-use Rattle.quorum.specs.Configurations.{set_at}
+use Rattle.quorum.specs.Configurations.{set_at, read_set, write_set}
 
 -- A set as the pairs are tested, by the set of the next place. An unused place stands for all stations, which share one with every
 -- used set; but one right before a used place stays empty and shares none, so that a gap is found. (That each side has a used place is
@@ -11,20 +10,21 @@ use Rattle.quorum.specs.Configurations.{set_at}
 unfoldable pub filled : ℕ → ℕ → ℕ
 filled set next = cond (eqb (bit_or set next) 0) 65535 set
 
--- the side that starts at a place; nothing follows its last place
-unfoldable pub filled_side : List ℕ → ℕ → List ℕ
-filled_side c side =
-    filled (set_at c side) (set_at c (side + 1)) ∷ filled (set_at c (side + 1)) (set_at c (side + 2))
-    ∷ filled (set_at c (side + 2)) (set_at c (side + 3)) ∷ filled (set_at c (side + 3)) (set_at c (side + 4))
-    ∷ filled (set_at c (side + 4)) (set_at c (side + 5)) ∷ filled (set_at c (side + 5)) (set_at c (side + 6))
-    ∷ filled (set_at c (side + 6)) (set_at c (side + 7)) ∷ filled (set_at c (side + 7)) 0 ∷ []
+-- the places of a side; nothing follows its last place
+unfoldable pub filled_side : (ℕ → ℕ) → List ℕ
+filled_side side =
+    filled (side 0) (side 1) ∷ filled (side 1) (side 2) ∷ filled (side 2) (side 3) ∷ filled (side 3) (side 4)
+    ∷ filled (side 4) (side 5) ∷ filled (side 5) (side 6) ∷ filled (side 6) (side 7) ∷ filled (side 7) 0 ∷ []
 
--- a read set with each of eight write sets; each read set so, the last one first
-unfoldable pub row_ok : List ℕ → ℕ → Bool
-row_ok writes read = all_below (λ k. shares read (get_or writes k 0)) 8
+-- a read set with each of the write sets; each read set so, the last one first
+abbrev pub row_ok : List ℕ → ℕ → Bool
+row_ok writes read = fold (λ ok write. ok && shares read write) true writes
 
-unfoldable pub pairs_ok : List ℕ → Bool
-pairs_ok c = all_below (λ k. row_ok (filled_side c 8) (get_or (filled_side c 0) (7 - k) 0)) 8
+abbrev pub rows_ok : List ℕ → List ℕ → Bool
+rows_ok reads writes = fold (λ ok read. ok && row_ok writes read) true (reverse reads)
+
+abbrev pub pairs_ok : List ℕ → Bool
+pairs_ok c = rows_ok (filled_side (read_set c)) (filled_side (write_set c))
 
 -- four sets as one number
 abbrev pub four : List ℕ → ℕ → ℕ

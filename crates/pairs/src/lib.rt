@@ -1,11 +1,12 @@
 // Whether one configuration is valid, tested eight pairs of its sets at once: soundness asks it of each copy.
 #![tactic(auto)]
 
-ghost use Rattle.std.specs.Prelude.{◌≡◌, ◌+◌, ◌*◌, ◌<◌, ◌≤◌, length};
-ghost use Rattle.quorum.specs.Configurations.{config_size, valid};
-ghost use Rattle.pairs.specs.Pairs.{filled, filled_side, row_ok, pairs_ok, four, FourFit, outside_of, four_within};
+ghost use Rattle.std.specs.Prelude.{◌≡◌, ◌+◌, ◌*◌, ◌<◌, ◌≤◌};
+ghost use Rattle.quorum.specs.Configurations.{side_sets, valid};
+ghost use Rattle.pairs.specs.Pairs.{filled, filled_side, row_ok, rows_ok, pairs_ok, four, FourFit, outside_of, four_within};
 
-use sets::{all_stations, load_set, share_station};
+use quorum::{CONFIG_SIZE, SIDE_SIZE, Side};
+use sets::{all_stations, load_set, load_side, share_station};
 
 // A set as the pairs are tested: an unused place is filled with all stations, which share one with every used set. One right
 // before a used place stays empty and shares none, so a gap fails the test of pairs.
@@ -15,20 +16,12 @@ fn filled(set: u16, next: u16) -> u16
     if set | next == 0 { 65535 } else { set }
 }
 
-// The sets of the side that starts at a place, so filled. They are loaded in this order, and the pairs below tested without an
-// early end, so that the compiler keeps each side in one register and tests eight pairs at once.
-fn filled_side(config: &[u8], side: usize) -> [u16; 8]
-    requires { (side ≤ 8) × (length config.now ≡ config_size) }
-    ensures { result ≡ filled_side config.now side }
+// The sets of a side, so filled. The pairs below are tested without an early end, so that the compiler keeps each side in one
+// register and tests eight pairs at once.
+fn filled_side(config: &[u8; CONFIG_SIZE], side: Side) -> [u16; SIDE_SIZE]
+    ensures { result ≡ filled_side (side_sets side config.now) }
 {
-    let s7 = load_set(config, side + 7);
-    let s6 = load_set(config, side + 6);
-    let s5 = load_set(config, side + 5);
-    let s4 = load_set(config, side + 4);
-    let s3 = load_set(config, side + 3);
-    let s2 = load_set(config, side + 2);
-    let s1 = load_set(config, side + 1);
-    let s0 = load_set(config, side);
+    let [s0, s1, s2, s3, s4, s5, s6, s7] = load_side(config, side);
     [
         filled(s0, s1),
         filled(s1, s2),
@@ -42,33 +35,37 @@ fn filled_side(config: &[u8], side: usize) -> [u16; 8]
 }
 
 // Whether the read set shares a station with each of the write sets.
-fn row_ok(writes: [u16; 8], read: u16) -> bool
+fn row_ok(writes: [u16; SIDE_SIZE], read: u16) -> bool
     ensures { result ≡ row_ok writes read }
 {
-    let mut ok = true;
-    for k in 0..8usize {
-        ok = ok & share_station(read, writes[k]);
-    }
-    ok
+    writes
+        .iter()
+        .fold(true, |ok, write| ok & share_station(read, *write))
+}
+
+// Whether each read set shares a station with each write set, the last read set first.
+fn rows_ok(reads: [u16; SIDE_SIZE], writes: [u16; SIDE_SIZE]) -> bool
+    ensures { result ≡ rows_ok reads writes }
+{
+    reads
+        .iter()
+        .rev()
+        .fold(true, |ok, read| ok & row_ok(writes, *read))
 }
 
 // Whether each filled read set shares a station with each filled write set.
-fn pairs_ok(config: &[u8]) -> bool
-    requires { length config.now ≡ config_size }
+fn pairs_ok(config: &[u8; CONFIG_SIZE]) -> bool
     ensures { result ≡ pairs_ok config.now }
 {
-    let reads = filled_side(config, 0);
-    let writes = filled_side(config, 8);
-    let mut ok = true;
-    for k in 0..8usize {
-        ok = ok & row_ok(writes, reads[7 - k]);
-    }
-    ok
+    rows_ok(
+        filled_side(config, Side::Read),
+        filled_side(config, Side::Write),
+    )
 }
 
 // Four sets as one number.
-fn load_four(config: &[u8], place: usize) -> u64
-    requires { (place ≤ 12) × (length config.now ≡ config_size) }
+fn load_four(config: &[u8; CONFIG_SIZE], place: usize) -> u64
+    requires { place ≤ 12 }
     ensures value { result ≡ four config.now place }
     ensures four_fit { FourFit config.now place }
 {
@@ -86,16 +83,16 @@ fn outside(n: usize) -> u64
 }
 
 // Whether four sets name no station n or above.
-fn four_within(config: &[u8], place: usize, n: usize) -> bool
-    requires { (place ≤ 12) × (n ≤ 16) × (length config.now ≡ config_size) }
+fn four_within(config: &[u8; CONFIG_SIZE], place: usize, n: usize) -> bool
+    requires { (place ≤ 12) × (n ≤ 16) }
     ensures { result ≡ four_within n config.now place }
 {
     load_four(config, place) & outside(n) == 0
 }
 
 // Whether 32 bytes are a valid configuration of n stations.
-pub fn config_ok(config: &[u8], n: usize) -> bool
-    requires { (1 ≤ n) × (n ≤ 16) × (length config.now ≡ config_size) }
+pub fn config_ok(config: &[u8; CONFIG_SIZE], n: usize) -> bool
+    requires { (1 ≤ n) × (n ≤ 16) }
     ensures { result ≡ valid n config.now }
 {
     if !pairs_ok(config) {

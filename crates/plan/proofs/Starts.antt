@@ -8,6 +8,7 @@ use native.Mathlib.Nat.{not-suc-le-zero}
 use native.Mathlib.Omega.{arith}
 use lib.Dec.{eqb, leb}
 use lib.ListN.{length, take, get_or}
+use Rattle.std.specs.Prelude.{Option}
 use lib.Seq.{take_all}
 use borrow.Author.Tests.{eqb-true, eq-eqb, leb-true, leb-false}
 use Rattle.basics.specs.Tests.{Some}
@@ -16,7 +17,6 @@ use Rattle.basics.proofs.Listing.{listing}
 use Rattle.quorum.specs.Sets.{member, join}
 use Rattle.quorum.specs.Configurations.{place_figure}
 use Rattle.quorum.specs.Promise.{◌⊆◌}
-use Rattle.quorum.specs.declared.Place.{Place}
 use Rattle.quorum.proofs.Promise.{promise}
 use Rattle.plan.specs.Starts.{among, joined, rising, start, first_start, Starts}
 
@@ -91,7 +91,7 @@ module _ (set : ℕ) where
 
 -- ---- the first start that passes a test
 module _ (test : ℕ → Bool) (order : List ℕ) where
-  abbrev first : Place
+  abbrev first : Option ℕ
   first = first_start test order
 
   pub passes_first : (k : ℕ) → 1 ≤ k → (place_figure first ≡ k)

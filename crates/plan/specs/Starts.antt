@@ -1,10 +1,10 @@
 -- Stations in rising number, and the starts of that order (document 02, 2026-05: "if the stations on the bus are polled in rising number").
-use Rattle.std.specs.Prelude.{◌≡◌, Bool, true, false, ◌||◌, List, [], ◌∷◌, ◌↔◌, ℕ, suc, ◌≤◌, ◌<◌, eqb, length, take, get_or}
+use Rattle.std.specs.Prelude.{◌≡◌, Bool, true, false, ◌||◌, List, [], ◌∷◌, ◌↔◌, ℕ, suc, ◌≤◌, ◌<◌, eqb, length, take, get_or, Option}
 use Rattle.basics.specs.Tests.{Some}
-use Rattle.basics.specs.Listing.{passing, Listing}
+use Rattle.basics.specs.Listing.{Listing}
+pub use Rattle.quorum.specs.Sets.{rising}
 use Rattle.quorum.specs.Sets.{member, join}
 use Rattle.quorum.specs.Configurations.{first_place, place_figure}
-use Rattle.quorum.specs.declared.Place.{Place}
 
 -- ---- stations in an order: a list, who is in it, and the set of them
 abbrev pub among : List ℕ → ℕ → Bool
@@ -17,17 +17,13 @@ joined set [] = set
 joined set (s ∷ rest) = joined (join set s) rest
 
 -- ---- starts
--- the stations of a set of 16 bits, in rising number
-abbrev pub rising : ℕ → List ℕ
-rising set = passing (member set) 16
-
 -- a start of an order: its first k stations, as a set
 abbrev pub start : List ℕ → ℕ → ℕ
 start order k = joined 0 (take k order)
 
 -- the first start of an order that passes a test, by the place of its last station, if there is one; how many stations it has is the figure of
 -- that place: one plus it, or 0 where no start passes
-abbrev pub first_start : (ℕ → Bool) → List ℕ → Place
+abbrev pub first_start : (ℕ → Bool) → List ℕ → Option ℕ
 first_start test order = first_place (λ k. test (start order (suc k))) (length order)
 
 -- the same by quantifiers

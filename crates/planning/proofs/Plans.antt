@@ -3,6 +3,7 @@ use mathlib.Core.Path.{◌≡◌, sym, ap, ◌∙◌}
 use mathlib.Core.Bool.{Bool, true, false, not, cond}
 use mathlib.Core.List.{List}
 use Prim.Native.Nat.{ℕ, ◌<◌}
+use native.Mathlib.Omega.{arith}
 use borrow.Author.Tests.{lt-ltb}
 use Rattle.basics.proofs.Tests.{either}
 use Rattle.quorum.specs.Sets.{within}
@@ -18,23 +19,19 @@ use Rattle.plan.specs.Plan.{found_by_start, puts_needed, planned_polls}
 use Rattle.rules.specs.Calls.{reach, plan}
 use Rattle.rules.specs.Rules.{first, tests, no_item}
 use Rattle.rules.specs.Figures.{figures_of}
-use Rattle.rules.specs.Reply.{answer}
-use Rattle.rules.specs.declared.Reply.{Reply}
+use Rattle.rules.specs.Outcome.{refusal_number}
+use Rattle.rules.specs.declared.Refusal.{Refusal}
+use Rattle.rules.proofs.Outcomes.{refusal_some}
 use Rattle.rules.proofs.Steps.{on_bus_lem}
-use Rattle.newest.specs.declared.Newest.{Newest}
 use Rattle.planning.specs.Planning.{Says}
-use Rattle.planning.specs.declared.FirstHeard.TheVariants.{After, Never}
+use Rattle.std.specs.Prelude.{Some, None}
+use Rattle.planning.specs.declared.FirstHeard.{FirstHeard}
 
--- a reply of two figures
-abbrev pub plan_reply : ℕ → ℕ → Reply
-plan_reply polls puts = record { number = 0; first = polls; second = puts; third = 0 }
-
--- ---- the number
 -- reach's one test is plan's first
-pub no_item_lem : (v : State) (i : ℕ) {k : ℕ} → k ≡ first (tests v (reach i)) → (k ≡ 0 → ⊥) → k ≡ first (tests v (plan i))
+pub no_item_lem : (v : State) (i : ℕ) (e : Refusal) → refusal_number e ≡ first (tests v (reach i)) → refusal_number e ≡ first (tests v (plan i))
 unfolding tests first
-no_item_lem v i e h =
-    either (no_item v i) (λ z. rw z at e ∙ rw z) (λ z. absurd (h (rw z at e)))
+no_item_lem v i e q =
+    either (no_item v i) (λ z. rw z at q ∙ rw z) (λ z. let none : refusal_number e ≡ 0 = rw z at q in absurd (omega (arith, refusal_some e)))
 
 module _ (t : List ℕ) (s : sound t ≡ true) (i : ℕ) (l : i < items t) {n on : ℕ} (a : n ≡ stations t) (b : on ≡ on_bus (view t)) where
   -- the stations on the bus are among the n
@@ -47,13 +44,13 @@ module _ (t : List ℕ) (s : sound t ≡ true) (i : ℕ) (l : i < items t) {n on
   unfolding tests first view
   numbered place e = rw (e, lt-ltb i (items t) l)
 
-  pub unheard : Says t n i on Never → 15 ≡ first (tests (view t) (plan i))
+  pub unheard : Says (copies_of t n i) n on None → 15 ≡ first (tests (view t) (plan i))
   unfolding view
   unheard e = let z = rw (a, b) at e in numbered false (sym ((promise.figure_none _).0 z))
 
   -- ---- heard, and the puts judged by the configuration found
-  module _ (newest : Newest) {polls puts : ℕ} {config : List ℕ} (e : Says t n i on (After polls newest))
-      (c : config ≡ (copies_of t n i newest.by_generation).config) (p : puts ≡ place_figure (first_start (holds_write config) (rising on))) where
+  module _ (one : FirstHeard) {puts : ℕ} {config : List ℕ} (e : Says (copies_of t n i) n on (Some one))
+      (c : config ≡ (copies_of t n i one.newest.by_generation).config) (p : puts ≡ place_figure (first_start (holds_write config) (rising on))) where
     pub heard : 0 ≡ first (tests (view t) (plan i))
     unfolding view
     heard = let z = rw (a, b) at e.1 in numbered true (sym ((promise.figure_place _).0 (rw z at e.0)))
@@ -65,6 +62,6 @@ module _ (t : List ℕ) (s : sound t ≡ true) (i : ℕ) (l : i < items t) {n on
     unfolding puts_needed
     puts_found = p ∙ ap (λ x. place_figure (first_start (holds_write x) (rising on))) found
 
-    pub figures : plan_reply polls puts ≡ answer 0 (figures_of (view t) (plan i))
+    pub figures : record { first = one.polls; second = puts; third = 0 } ≡ figures_of (view t) (plan i)
     unfolding view figures_of
-    figures = let x = rw (a, b) at e.1 in let y = rw (a, b) at puts_found in λ j. plan_reply (x j) (y j)
+    figures = let x = rw (a, b) at e.1 in let y = rw (a, b) at puts_found in λ j. record { first = x j; second = y j; third = 0 }

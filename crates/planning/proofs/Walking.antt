@@ -2,14 +2,12 @@
 use mathlib.Core.Path.{◌≡◌, refl, sym, ap, ◌∙◌}
 use mathlib.Core.Bool.{Bool, true, false}
 use mathlib.Core.List.{List, [], ◌∷◌, ◌++◌}
-use Prim.Native.Nat.{ℕ, zero, suc, ◌+◌, ◌≤◌, ◌<◌}
-use native.Mathlib.Nat.{not-suc-le-zero}
+use Prim.Native.Nat.{ℕ, ◌+◌, ◌≤◌, ◌<◌}
 use native.Mathlib.Omega.{arith}
 use lib.Dec.{ltb, eqb}
 use lib.ListN.{length, take, length-append}
 use lib.Seq.{append_snoc, take_at}
 use borrow.Author.Tests.{eqb-true, eqb-false, ltb-true, ltb-false}
-use Rattle.basics.specs.Listing.{passing}
 use Rattle.basics.proofs.Tests.{clash, either, or_cases}
 use Rattle.basics.proofs.Listing.{passing_few}
 use Rattle.quorum.specs.Sets.{member, within, join, remove, lowest}
@@ -17,33 +15,12 @@ use Rattle.plan.specs.Starts.{joined}
 use Rattle.quorum.specs.Configurations.{place_figure}
 use Rattle.quorum.specs.Promise.{◌⊆◌}
 use Rattle.quorum.proofs.Promise.{promise}
+use Rattle.sets.proofs.Rising.{lowest-first, rising_empty}
 use Rattle.layout.proofs.Along.{lowest_in, left_less, others, taken_out}
 use Rattle.plan.specs.Starts.{rising, start, first_start}
 use Rattle.plan.proofs.Starts.{passes_first, none_passes}
 
 -- ---- the rising order
--- where no number passes, none is listed
-none_listed : (test : ℕ → Bool) (n : ℕ) → ((i : ℕ) → i < n → test i ≡ false) → passing test n ≡ []
-unfolding passing
-none_listed test zero h = refl
-none_listed test (suc n) h = rw (none_listed test n (λ i l. h i (omega arith)), h n (omega arith))
-
--- the lowest station of a set comes first, and then those of the set without it
-module _ (set s : ℕ) (m : member set s ≡ true) (low : (i : ℕ) → i < s → member set i ≡ false) where
-  lowest-first : (n : ℕ) → s < n → passing (member set) n ≡ s ∷ passing (member (remove set s)) n
-  unfolding passing
-  lowest-first zero l = absurd (not-suc-le-zero l)
-  lowest-first (suc n) l =
-      either (eqb n s)
-      (λ e. rw (
-        eqb-true n s e,
-        m,
-        none_listed (member set) s low,
-        taken_out set s,
-        none_listed (member (remove set s)) s (λ i l. others set s i (λ z. omega arith) ∙ low i l),
-      ))
-      (λ e. let h : n ≡ s → ⊥ = eqb-false n s e in rw (lowest-first n (omega arith), others set s n h))
-
 -- the last station of an order joins last
 joined-last : (order : List ℕ) (set s : ℕ) → joined set (order ++ (s ∷ [])) ≡ join (joined set order) s
 joined-last [] set s = refl
@@ -80,14 +57,15 @@ module _ {on count rest taken : ℕ} (p : Position on count rest taken) where
   length_split : length (rising on) ≡ count + length (rising rest)
   length_split = ap length p.order ∙ length-append p.front (rising rest) ∙ ap (λ x. x + length (rising rest)) p.long
 
-  pub count_fits : count ≤ 16
-  count_fits = omega (arith, length_split, passing_few (member on) 16)
+  -- those taken and those left are no more than there are stations
+  pub all_fit : count + length (rising rest) ≤ 16
+  all_fit = omega (arith, length_split, passing_few (member on) 16)
 
   all_taken : rest ≡ 0 → length (rising on) ≡ count
   all_taken z = omega (arith, length_split, none_left)
     where
       none_left : length (rising rest) ≡ 0
-      none_left = ap length (none_listed (member rest) 16 (λ i l. rw z (promise.member_empty i)))
+      none_left = rw (z, rising_empty)
 
   -- a turn: the lowest station that is left is taken
   module _ (h : rest ≡ 0 → ⊥) {s : ℕ} (q : s ≡ lowest rest) where

@@ -4,12 +4,12 @@ use mathlib.Core.Bool.{Bool, true, false}
 use mathlib.Core.List.{List, [], ◌∷◌, ◌++◌}
 use Prim.Native.Nat.{ℕ}
 use lib.ListN.{replicate}
+use Rattle.std.specs.Prelude.{None, Some}
 use Rattle.basics.specs.Tests.{all, all_below, any_below}
 use Rattle.basics.specs.Bytes.{little_endian}
 use Rattle.quorum.specs.Sets.{used, holds, shares, within}
 use Rattle.quorum.specs.Configurations.{set_at, read_set, write_set, used_first, some_used, all_within, shares_all, all_share, validity, valid}
-use Rattle.quorum.specs.Configurations.{holds_place, first_place, or_else, first_read, first_write, is_place, place_figure, holds_read, holds_write}
-use Rattle.quorum.specs.declared.Place.TheVariants.{At, Nowhere}
+use Rattle.quorum.specs.Configurations.{holds_place, first_place, first_read, first_write, place_figure, holds_read, holds_write}
 
 -- three sets of stations below 8 on a side
 abbrev side : ℕ → ℕ → ℕ → List ℕ
@@ -30,13 +30,13 @@ checks =
 
 checked : checks ≡ true ∷ true ∷ false ∷ false ∷ false ∷ false ∷ false ∷ false ∷ true ∷ false ∷ []
 unfolding checks all all_below any_below little_endian used holds shares within set_at read_set write_set used_first some_used all_within
-    shares_all all_share validity valid holds_place first_place or_else first_read first_write is_place
+    shares_all all_share validity valid holds_place first_place first_read first_write
 checked = refl
 
-places : first_read majority 7 ∷ first_read majority 6 ∷ first_write read_one 3 ∷ [] ≡ At 0 ∷ At 2 ∷ Nowhere ∷ []
-unfolding little_endian used holds set_at read_set write_set holds_place first_place or_else first_read first_write
+places : first_read majority 7 ∷ first_read majority 6 ∷ first_write read_one 3 ∷ [] ≡ Some 0 ∷ Some 2 ∷ None ∷ []
+unfolding little_endian used holds set_at read_set write_set holds_place first_place first_read first_write
 places = refl
 
 figures : place_figure (first_read majority 7) ∷ place_figure (first_read majority 6) ∷ place_figure (first_write read_one 3) ∷ [] ≡ 1 ∷ 3 ∷ 0 ∷ []
-unfolding place_figure little_endian used holds set_at read_set write_set holds_place first_place or_else first_read first_write
+unfolding place_figure little_endian used holds set_at read_set write_set holds_place first_place first_read first_write
 figures = refl

@@ -6,14 +6,15 @@ use mathlib.Core.Logic.{◌↔◌}
 use Prim.Native.Nat.{ℕ, ◌+◌, ◌≤◌, ◌^◌}
 use native.Mathlib.Omega.{arith}
 use lib.ListN.{length}
+use Rattle.std.specs.Prelude.{None, Some}
 use lib.Pow.{pow_pos, pow_mono}
 use borrow.Author.Tests.{ltb-true, lt-ltb, ne_eqb}
-use Rattle.basics.specs.Tests.{Some}
+use Rattle.basics.specs.Tests.{Some as SomeBelow}
 use Rattle.quorum.specs.Sets.{member, used, within, unite, remove, full}
 use Rattle.quorum.specs.Configurations.{set_at, read_set, write_set, valid, holds_place, first_place}
 use Rattle.quorum.specs.Configurations.{first_read, first_write, is_place, holds_read, holds_write, config_size}
 use Rattle.quorum.specs.Promise.{Promise, ◌⊆◌, QuorumIn, FirstIn, Side}
-use Rattle.quorum.specs.declared.Place.TheVariants.{At, Nowhere}
+use Rattle.basics.proofs.Listing.{listing}
 use Rattle.basics.proofs.Tests.{clash, fails, same_test, either}
 use Rattle.quorum.proofs.Members.{member_empty, member_join, member-or, member_minus, member_remove, member_full, same_members}
 use Rattle.quorum.proofs.Members.{holds-member, member-holds, subset_le, shares_members, used_member}
@@ -27,14 +28,14 @@ module _ (side : ℕ → ℕ) (set : ℕ) where
   abbrev any : Bool
   any = is_place (first_place (holds_place side set) 8)
 
-  first_in : (k : ℕ) → (first_place (holds_place side set) 8 ≡ At k) ↔ FirstIn side set k
+  first_in : (k : ℕ) → (first_place (holds_place side set) 8 ≡ Some k) ↔ FirstIn side set k
   first_in k = (
     λ e. let f = (first_exactly (holds_place side set) 8 k).0 e in
         (f.0, place_lies side set k f.1, λ j l h. clash (lies_place side set j h) (f.2 j l)),
     λ f. (first_exactly (holds_place side set) 8 k).1 (f.0, lies_place side set k f.1, λ j l. fails _ (λ e. f.2 j l (place_lies side set j e))),
   )
 
-  none_in : (first_place (holds_place side set) 8 ≡ Nowhere) ↔ (QuorumIn side set → ⊥)
+  none_in : (first_place (holds_place side set) 8 ≡ None) ↔ (QuorumIn side set → ⊥)
   none_in = (
     λ e s. clash (lies_place side set s.0 s.2) ((first_nowhere _ 8).0 e s.0 s.1),
     λ h. (first_nowhere _ 8).1 (λ k l. fails _ (λ e. h (k, l, place_lies side set k e))),
@@ -62,7 +63,7 @@ whole n side l s =
     (held side (full n)).1 (0, omega arith, (first_used n side s, λ i m. member_full n i l ∙ lt-ltb i n (s.in_range 0 (omega arith) i m)))
 
 meeting : (n : ℕ) (c : List ℕ) (r w : ℕ) → valid n c ≡ true → holds_read c r ≡ true → holds_write c w ≡ true
-    → Some n (λ i. (member r i ≡ true) × (member w i ≡ true))
+    → SomeBelow n (λ i. (member r i ≡ true) × (member w i ≡ true))
 unfolding first_read first_write within
 meeting n c r w v hr hw =
     let f = valid_facts n c v in
@@ -132,6 +133,7 @@ promise =
       below_lowest = below_lowest;
       remove_less = remove_less;
       without_lowest = without_lowest;
+      rises = λ set. listing (member set) 16;
       within_member = λ n a i w. (within_members n a).0 w i;
       member_within = λ n a. (within_members n a).1;
       within_empty = λ n. lt-ltb 0 (2 ^ n) (pow_pos n);

@@ -8,14 +8,13 @@ use native.Mathlib.Nat.{not-suc-le-zero}
 use native.Mathlib.Numerals.{add-one}
 use native.Mathlib.Omega.{arith}
 use lib.ListN.{length}
+use Rattle.std.specs.Prelude.{Option, None, Some}
 use lib.Dec.{leb, eqb}
 use borrow.Author.Tests.{leb-true, le-leb, eqb-true, eqb-false, eq-eqb, not-true}
 use Rattle.quorum.specs.Sets.{listed_stations, used}
 use Rattle.quorum.specs.Configurations.{read_set, write_set, used_first, some_used, all_within, shares_all, all_share, validity, valid, config_size}
 use Rattle.quorum.specs.Configurations.{holds_place, first_place, or_else, place_figure, is_place}
 use Rattle.quorum.specs.Promise.{LiesIn, Side, Valid}
-use Rattle.quorum.specs.declared.Place.{Place}
-use Rattle.quorum.specs.declared.Place.TheVariants.{At, Nowhere}
 use Rattle.basics.proofs.Tests.{◌also◌, clash, and_left, and_right, and_both, implies, implied, or_cases, either}
 use Rattle.basics.proofs.Tests.{all_true, true-all, all-below, below_all, any_below_lem, below-any, below_suc}
 use Rattle.quorum.proofs.Members.{holds-member, member-holds, shares_members, within_members}
@@ -105,21 +104,19 @@ unfolding holds_place
 lies_place side set k h = and_both _ _ h.0 (member-holds set (side k) h.1)
 
 -- ---- the first place
-first_step : (p : ℕ → Bool) (k : ℕ) → first_place p (suc k) ≡ or_else (first_place p k) (cond (p k) (At k) Nowhere)
+first_step : (p : ℕ → Bool) (k : ℕ) → first_place p (suc k) ≡ or_else (first_place p k) (cond (p k) (Some k) None)
 unfolding first_place
 first_step p k = refl
 
 -- at its start, where it goes on, and where it finds
-first-start : (p : ℕ → Bool) → first_place p 0 ≡ Nowhere
+first-start : (p : ℕ → Bool) → first_place p 0 ≡ None
 unfolding first_place
 first-start p = refl
 
-first_on : (p : ℕ → Bool) (k : ℕ) → first_place p k ≡ Nowhere → p k ≡ false → first_place p (k + 1) ≡ Nowhere
-unfolding or_else
+first_on : (p : ℕ → Bool) (k : ℕ) → first_place p k ≡ None → p k ≡ false → first_place p (k + 1) ≡ None
 first_on p k e f = rw (add-one, first_step, e, f)
 
-first_hit : (p : ℕ → Bool) (n k : ℕ) → k < n → first_place p k ≡ Nowhere → p k ≡ true → first_place p n ≡ At k
-unfolding or_else
+first_hit : (p : ℕ → Bool) (n k : ℕ) → k < n → first_place p k ≡ None → p k ≡ true → first_place p n ≡ Some k
 first_hit p zero k l e f = absurd (not-suc-le-zero l)
 first_hit p (suc n) k l e f =
     either (eqb k n)
@@ -127,71 +124,68 @@ first_hit p (suc n) k l e f =
     (λ q. let h : k ≡ n → ⊥ = eqb-false k n q in rw (first_step, first_hit p n k (omega arith) e f))
 
 -- the search over the numbers below n: of none does p hold, or i is the first
-abbrev None : (ℕ → Bool) → ℕ → Type 0
-None p n = (j : ℕ) → j < n → p j ≡ false
+abbrev NoneBelow : (ℕ → Bool) → ℕ → Type 0
+NoneBelow p n = (j : ℕ) → j < n → p j ≡ false
 
 abbrev First : (ℕ → Bool) → ℕ → ℕ → Type 0
-First p n i = (i < n) × (p i ≡ true) × None p i
+First p n i = (i < n) × (p i ≡ true) × NoneBelow p i
 
 abbrev Scanned : (ℕ → Bool) → ℕ → Type 0
-Scanned p n = ((first_place p n ≡ Nowhere) × None p n) ⊎ ((i : ℕ) × (first_place p n ≡ At i) × First p n i)
+Scanned p n = ((first_place p n ≡ None) × NoneBelow p n) ⊎ ((i : ℕ) × (first_place p n ≡ Some i) × First p n i)
 
 scan : (p : ℕ → Bool) (n : ℕ) → Scanned p n
-unfolding or_else
 scan p zero = inl (first-start p, λ j l. absurd (not-suc-le-zero l))
 scan p (suc n) = ⊎_elim stop on (scan p n)
   where
-    stop : (first_place p n ≡ Nowhere) × None p n → Scanned p (suc n)
+    stop : (first_place p n ≡ None) × NoneBelow p n → Scanned p (suc n)
     stop h =
         either (p n)
         (λ e. inr (n, first_hit p (suc n) n (omega arith) h.0 e, (omega arith, e, h.1)))
         (λ e. inl (rw add-one at (first_on p n h.0 e), below_suc (λ (j : ℕ). p j ≡ false) n h.1 e))
 
-    on : (i : ℕ) × (first_place p n ≡ At i) × First p n i → Scanned p (suc n)
+    on : (i : ℕ) × (first_place p n ≡ Some i) × First p n i → Scanned p (suc n)
     on r = let l = r.2.0 in inr (r.0, rw (first_step, r.1), (omega arith, r.2.1, r.2.2))
 
-pub first_exactly : (p : ℕ → Bool) (n k : ℕ) → (first_place p n ≡ At k) ↔ First p n k
+pub first_exactly : (p : ℕ → Bool) (n k : ℕ) → (first_place p n ≡ Some k) ↔ First p n k
 first_exactly p n k = (
   λ e. ⊎_elim (λ h. let z : ◌≡◌ {A = ℕ} 0 1 = cc h.0 in absurd (omega arith)) (λ r. let q : r.0 ≡ k = cc r.1 in rw q at r.2) (scan p n),
   λ f. first_hit p n k f.0 (⊎_elim (λ h. h.0) (λ r. clash r.2.1 (f.2 r.0 r.2.0)) (scan p k)) f.1,
 )
 
-pub first_nowhere : (p : ℕ → Bool) (n : ℕ) → (first_place p n ≡ Nowhere) ↔ None p n
+pub first_nowhere : (p : ℕ → Bool) (n : ℕ) → (first_place p n ≡ None) ↔ NoneBelow p n
 first_nowhere p n = (
   λ e. ⊎_elim (λ h. h.1) (λ r. let z : ◌≡◌ {A = ℕ} 0 1 = cc r.1 in absurd (omega arith)) (scan p n),
   λ e. ⊎_elim (λ h. h.0) (λ r. clash r.2.1 (e r.0 r.2.0)) (scan p n),
 )
 
 -- ---- whether there is a place, and its figure
-pub no_place : (place : Place) → (is_place place ≡ false) ↔ (place ≡ Nowhere)
-unfolding is_place
-no_place (At k) = (λ e. absurd (true≢false e), λ e. let z : ◌≡◌ {A = ℕ} 0 1 = cc e in absurd (omega arith))
-no_place Nowhere = (λ _. refl, λ _. refl)
+pub no_place : (place : Option ℕ) → (is_place place ≡ false) ↔ (place ≡ None)
+no_place (Some k) = (λ e. absurd (true≢false e), λ e. let z : ◌≡◌ {A = ℕ} 0 1 = cc e in absurd (omega arith))
+no_place None = (λ _. refl, λ _. refl)
 
-pub a_place : (place : Place) → (is_place place ≡ true) ↔ ((k : ℕ) × (place ≡ At k))
-unfolding is_place
-a_place (At k) = (λ _. (k, refl), λ _. refl)
-a_place Nowhere = (λ e. absurd (false≢true e), λ s. let z : ◌≡◌ {A = ℕ} 0 1 = cc s.1 in absurd (omega arith))
+pub a_place : (place : Option ℕ) → (is_place place ≡ true) ↔ ((k : ℕ) × (place ≡ Some k))
+a_place (Some k) = (λ _. (k, refl), λ _. refl)
+a_place None = (λ e. absurd (false≢true e), λ s. let z : ◌≡◌ {A = ℕ} 0 1 = cc s.1 in absurd (omega arith))
 
-pub figure_at : (place : Place) (k : ℕ) → (place_figure place ≡ suc k) ↔ (place ≡ At k)
+pub figure_at : (place : Option ℕ) (k : ℕ) → (place_figure place ≡ suc k) ↔ (place ≡ Some k)
 unfolding place_figure
-figure_at (At j) k = (λ e. let q : j ≡ k = omega (arith, e) in ap At q, λ e. let q : j ≡ k = cc e in omega (arith, q))
-figure_at Nowhere k = (λ e. absurd (omega (arith, e)), λ e. let z : ◌≡◌ {A = ℕ} 0 1 = cc e in absurd (omega arith))
+figure_at (Some j) k = (λ e. let q : j ≡ k = omega (arith, e) in ap Some q, λ e. let q : j ≡ k = cc e in omega (arith, q))
+figure_at None k = (λ e. absurd (omega (arith, e)), λ e. let z : ◌≡◌ {A = ℕ} 0 1 = cc e in absurd (omega arith))
 
-pub figure_nowhere : (place : Place) → (place_figure place ≡ 0) ↔ (place ≡ Nowhere)
+pub figure_nowhere : (place : Option ℕ) → (place_figure place ≡ 0) ↔ (place ≡ None)
 unfolding place_figure
-figure_nowhere (At j) = (λ e. absurd (omega (arith, e)), λ e. let z : ◌≡◌ {A = ℕ} 0 1 = cc e in absurd (omega arith))
-figure_nowhere Nowhere = (λ _. refl, λ _. refl)
+figure_nowhere (Some j) = (λ e. absurd (omega (arith, e)), λ e. let z : ◌≡◌ {A = ℕ} 0 1 = cc e in absurd (omega arith))
+figure_nowhere None = (λ _. refl, λ _. refl)
 
-pub figure_place : (place : Place) → (1 ≤ place_figure place) ↔ (is_place place ≡ true)
-unfolding place_figure is_place
-figure_place (At k) = (λ _. refl, λ _. omega arith)
-figure_place Nowhere = (λ l. absurd (omega arith), λ e. absurd (false≢true e))
+pub figure_place : (place : Option ℕ) → (1 ≤ place_figure place) ↔ (is_place place ≡ true)
+unfolding place_figure
+figure_place (Some k) = (λ _. refl, λ _. omega arith)
+figure_place None = (λ l. absurd (omega arith), λ e. absurd (false≢true e))
 
-pub figure_none : (place : Place) → (place_figure place ≡ 0) ↔ (is_place place ≡ false)
-unfolding place_figure is_place
-figure_none (At k) = (λ e. absurd (omega (arith, e)), λ e. absurd (true≢false e))
-figure_none Nowhere = (λ _. refl, λ _. refl)
+pub figure_none : (place : Option ℕ) → (place_figure place ≡ 0) ↔ (is_place place ≡ false)
+unfolding place_figure
+figure_none (Some k) = (λ e. absurd (omega (arith, e)), λ e. absurd (true≢false e))
+figure_none None = (λ _. refl, λ _. refl)
 
 pub first_same : (p q : ℕ → Bool) (n : ℕ) → ((k : ℕ) → k < n → p k ≡ q k) → first_place p n ≡ first_place q n
 unfolding first_place

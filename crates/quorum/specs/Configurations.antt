@@ -1,10 +1,11 @@
 -- Configurations (document 01, "Stations, sets, configurations"; source 000, section 3).
-use Rattle.std.specs.Prelude.{Bool, true, false, not, cond, ◌&&◌, ◌||◌, List, [], ◌∷◌, ℕ, zero, suc, ◌+◌, ◌*◌, length, eqb}
+use Rattle.std.specs.Prelude.{Bool, not, cond, ◌&&◌, ◌||◌, List, [], ◌∷◌, ℕ, zero, suc, ◌+◌, ◌*◌, length, eqb, Option, None, Some, is_some}
+use Rattle.std.specs.Option.{option_or}
 use Rattle.basics.specs.Tests.{all, all_below, any_below}
 use Rattle.basics.specs.Bytes.{number}
 use Rattle.quorum.specs.Sets.{listed_stations, used, holds, shares, within}
-use Rattle.quorum.specs.declared.Place.{Place}
-use Rattle.quorum.specs.declared.Place.TheVariants.{At, Nowhere}
+use Rattle.quorum.specs.declared.Side.{Side}
+use Rattle.quorum.specs.declared.Side.TheVariants.{Read, Write}
 
 -- "A configuration is 32 bytes: eight read sets, then eight write sets, two bytes each."
 abbrev pub config_size : ℕ
@@ -21,6 +22,15 @@ read_set c k = set_at c k
 
 unfoldable pub write_set : List ℕ → ℕ → ℕ
 write_set c k = set_at c (8 + k)
+
+-- a side of the code: its sets, and the place where it starts
+abbrev pub side_sets : Side → List ℕ → ℕ → ℕ
+side_sets Read c = read_set c
+side_sets Write c = write_set c
+
+abbrev pub side_start : Side → ℕ
+side_start Read = 0
+side_start Write = 8
 
 -- "A zero set is an unused place; used places come first on each side": no used place behind an unused one
 unfoldable pub used_first : (ℕ → ℕ) → Bool
@@ -65,31 +75,29 @@ holds_place side set k = used (side k) && holds set (side k)
 
 -- ---- the first place held (document 02, 2026-04: "The test for heard shall tell the first read place held")
 -- the first of two answers that is a place, if one is
-unfoldable pub or_else : Place → Place → Place
-or_else (At k) other = At k
-or_else Nowhere other = other
+abbrev pub or_else : Option ℕ → Option ℕ → Option ℕ
+or_else place other = option_or place other
 
 -- the first place below a bound of which p holds, if there is one
-unfoldable pub first_place : (ℕ → Bool) → ℕ → Place
-first_place p zero = Nowhere
-first_place p (suc k) = or_else (first_place p k) (cond (p k) (At k) Nowhere)
+unfoldable pub first_place : (ℕ → Bool) → ℕ → Option ℕ
+first_place p zero = None
+first_place p (suc k) = or_else (first_place p k) (cond (p k) (Some k) None)
 
 -- the first read place, the first write place whose set the given set holds
-unfoldable pub first_read : List ℕ → ℕ → Place
+unfoldable pub first_read : List ℕ → ℕ → Option ℕ
 first_read c set = first_place (holds_place (read_set c) set) 8
 
-unfoldable pub first_write : List ℕ → ℕ → Place
+unfoldable pub first_write : List ℕ → ℕ → Option ℕ
 first_write c set = first_place (holds_place (write_set c) set) 8
 
 -- the answer as a figure: "one plus that place, or 0"
-unfoldable pub place_figure : Place → ℕ
-place_figure (At k) = k + 1
-place_figure Nowhere = 0
+unfoldable pub place_figure : Option ℕ → ℕ
+place_figure (Some k) = k + 1
+place_figure None = 0
 
 -- whether there is one
-unfoldable pub is_place : Place → Bool
-is_place (At k) = true
-is_place Nowhere = false
+abbrev pub is_place : Option ℕ → Bool
+is_place place = is_some place
 
 -- the set holds every station of some read set, of some write set: there is a place
 abbrev pub holds_read : List ℕ → ℕ → Bool
@@ -97,3 +105,7 @@ holds_read c set = is_place (first_read c set)
 
 abbrev pub holds_write : List ℕ → ℕ → Bool
 holds_write c set = is_place (first_write c set)
+
+abbrev pub holds_side : Side → List ℕ → ℕ → Bool
+holds_side Read c set = holds_read c set
+holds_side Write c set = holds_write c set

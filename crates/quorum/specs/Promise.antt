@@ -1,14 +1,13 @@
 -- What the crate promises of its definitions of sets and configurations: "the table layer relies on their promises alone". The crates above rely on this
 -- record and on the contracts of `sets`, `pairs` and `validity`. These three, the code of this layer, open the definitions, and so do `form`, `in_form` and
 -- `forming`, which test and write configurations, and the examples that are computed (`cases`, `runs`).
-use Rattle.std.specs.Prelude.{◌≡◌, Bool, true, false, not, ◌&&◌, ◌||◌, List, ◌↔◌, ℕ, suc, ◌-◌, ◌≤◌, ◌<◌, ltb, eqb, length}
+use Rattle.std.specs.Prelude.{◌≡◌, Bool, true, false, not, ◌&&◌, ◌||◌, List, ◌↔◌, ℕ, suc, ◌-◌, ◌≤◌, ◌<◌, ltb, eqb, length, Option, None, Some}
 use Rattle.std.specs.Int.Bits.{bit_and}
-use Rattle.basics.specs.Tests.{Some}
-use Rattle.quorum.specs.Sets.{listed_stations, member, used, holds, shares, within, join, unite, minus, remove, lowest, full}
+use Rattle.basics.specs.Tests.{Some as SomeBelow}
+use Rattle.basics.specs.Listing.{Listing}
+use Rattle.quorum.specs.Sets.{listed_stations, rising, member, used, holds, shares, within, join, unite, minus, remove, lowest, full}
 use Rattle.quorum.specs.Configurations.{config_size, read_set, write_set, valid, first_place}
 use Rattle.quorum.specs.Configurations.{first_read, first_write, place_figure, is_place, holds_read, holds_write}
-use Rattle.quorum.specs.declared.Place.{Place}
-use Rattle.quorum.specs.declared.Place.TheVariants.{At, Nowhere}
 
 infix 50 ◌⊆◌
 -- every member of a is one of b
@@ -21,7 +20,7 @@ LiesIn side set k = (used (side k) ≡ true) × (side k ⊆ set)
 
 -- some set of a side lies within a station set
 abbrev pub QuorumIn : (ℕ → ℕ) → ℕ → Type 0
-QuorumIn side set = Some 8 (LiesIn side set)
+QuorumIn side set = SomeBelow 8 (LiesIn side set)
 
 -- k is the first place of a side that is used and whose set lies within the given one
 abbrev pub FirstIn : (ℕ → ℕ) → ℕ → ℕ → Type 0
@@ -37,7 +36,7 @@ pub record SamePasses (c d : List ℕ) : Type 0 where
 -- one side: a zero set is an unused place, used places come first, one is used, and the sets name stations below n
 pub record Side (n : ℕ) (side : ℕ → ℕ) : Type 0 where
   pub packed : (k : ℕ) → k < 7 → used (side (suc k)) ≡ true → used (side k) ≡ true
-  pub some : Some 8 (λ k. used (side k) ≡ true)
+  pub some : SomeBelow 8 (λ k. used (side k) ≡ true)
   pub in_range : (k : ℕ) → k < 8 → (i : ℕ) → member (side k) i ≡ true → i < n
 
 pub record Valid (n : ℕ) (c : List ℕ) : Type 0 where
@@ -53,7 +52,7 @@ pub record Promise : Type 0 where
   -- ---- quorums (source 000, section 3)
   -- a set that holds a read set and a set that holds a write set share a station, one of the n
   pub quorums_meet : (n : ℕ) (c : List ℕ) (r w : ℕ) → valid n c ≡ true → holds_read c r ≡ true → holds_write c w ≡ true
-      → Some n (λ i. (member r i ≡ true) × (member w i ≡ true))
+      → SomeBelow n (λ i. (member r i ≡ true) × (member w i ≡ true))
   -- to hold a read or a write set is that one lies within
   pub holds_read_lem : (c : List ℕ) (set : ℕ) → (holds_read c set ≡ true) ↔ QuorumIn (read_set c) set
   pub holds_write_lem : (c : List ℕ) (set : ℕ) → (holds_write c set ≡ true) ↔ QuorumIn (write_set c) set
@@ -66,21 +65,21 @@ pub record Promise : Type 0 where
   pub all_write : (n : ℕ) (c : List ℕ) → valid n c ≡ true → holds_write c (full n) ≡ true
   -- ---- places
   -- the first place below a bound of which a test holds; that there is none; and tests that agree below the bound have the same
-  pub first_exactly : (p : ℕ → Bool) (n k : ℕ) → (first_place p n ≡ At k) ↔ ((k < n) × (p k ≡ true) × ((j : ℕ) → j < k → p j ≡ false))
-  pub first_nowhere : (p : ℕ → Bool) (n : ℕ) → (first_place p n ≡ Nowhere) ↔ ((k : ℕ) → k < n → p k ≡ false)
+  pub first_exactly : (p : ℕ → Bool) (n k : ℕ) → (first_place p n ≡ Some k) ↔ ((k < n) × (p k ≡ true) × ((j : ℕ) → j < k → p j ≡ false))
+  pub first_nowhere : (p : ℕ → Bool) (n : ℕ) → (first_place p n ≡ None) ↔ ((k : ℕ) → k < n → p k ≡ false)
   pub first_same : (p q : ℕ → Bool) (n : ℕ) → ((k : ℕ) → k < n → p k ≡ q k) → first_place p n ≡ first_place q n
   -- that of a side is the first whose set lies within, and there is none exactly if no set does
-  pub first_read_lem : (c : List ℕ) (set k : ℕ) → (first_read c set ≡ At k) ↔ FirstIn (read_set c) set k
-  pub first_write_lem : (c : List ℕ) (set k : ℕ) → (first_write c set ≡ At k) ↔ FirstIn (write_set c) set k
-  pub no_first_read : (c : List ℕ) (set : ℕ) → (first_read c set ≡ Nowhere) ↔ (QuorumIn (read_set c) set → ⊥)
-  pub no_first_write : (c : List ℕ) (set : ℕ) → (first_write c set ≡ Nowhere) ↔ (QuorumIn (write_set c) set → ⊥)
+  pub first_read_lem : (c : List ℕ) (set k : ℕ) → (first_read c set ≡ Some k) ↔ FirstIn (read_set c) set k
+  pub first_write_lem : (c : List ℕ) (set k : ℕ) → (first_write c set ≡ Some k) ↔ FirstIn (write_set c) set k
+  pub no_first_read : (c : List ℕ) (set : ℕ) → (first_read c set ≡ None) ↔ (QuorumIn (read_set c) set → ⊥)
+  pub no_first_write : (c : List ℕ) (set : ℕ) → (first_write c set ≡ None) ↔ (QuorumIn (write_set c) set → ⊥)
   -- whether an answer is a place, and its figure, which tells the answer
-  pub a_place : (place : Place) → (is_place place ≡ true) ↔ ((k : ℕ) × (place ≡ At k))
-  pub no_place : (place : Place) → (is_place place ≡ false) ↔ (place ≡ Nowhere)
-  pub figure_at : (place : Place) (k : ℕ) → (place_figure place ≡ suc k) ↔ (place ≡ At k)
-  pub figure_nowhere : (place : Place) → (place_figure place ≡ 0) ↔ (place ≡ Nowhere)
-  pub figure_place : (place : Place) → (1 ≤ place_figure place) ↔ (is_place place ≡ true)
-  pub figure_none : (place : Place) → (place_figure place ≡ 0) ↔ (is_place place ≡ false)
+  pub a_place : (place : Option ℕ) → (is_place place ≡ true) ↔ ((k : ℕ) × (place ≡ Some k))
+  pub no_place : (place : Option ℕ) → (is_place place ≡ false) ↔ (place ≡ None)
+  pub figure_at : (place : Option ℕ) (k : ℕ) → (place_figure place ≡ suc k) ↔ (place ≡ Some k)
+  pub figure_nowhere : (place : Option ℕ) → (place_figure place ≡ 0) ↔ (place ≡ None)
+  pub figure_place : (place : Option ℕ) → (1 ≤ place_figure place) ↔ (is_place place ≡ true)
+  pub figure_none : (place : Option ℕ) → (place_figure place ≡ 0) ↔ (is_place place ≡ false)
   -- ---- validity
   pub valid_exactly : (n : ℕ) (c : List ℕ) → (valid n c ≡ true) ↔ Valid n c
   pub listed_stations_lem : (n : ℕ) → (listed_stations n ≡ true) ↔ ((1 ≤ n) × (n ≤ 16))
@@ -113,6 +112,8 @@ pub record Promise : Type 0 where
   pub remove_less : (a i : ℕ) → member a i ≡ true → remove a i < a
   -- the digits that a number shares with the one before it: the set without its lowest station
   pub without_lowest : (a : ℕ) → a < 65536 → (a ≡ 0 → ⊥) → bit_and a (a - 1) ≡ remove a (lowest a)
+  -- the rising order has the stations of a set of 16 bits, each once
+  pub rises : (set : ℕ) → Listing (λ s. (s < 16) × (member set s ≡ true)) (rising set)
   -- ---- stations below n
   pub within_member : (n a i : ℕ) → within n a ≡ true → member a i ≡ true → i < n
   pub member_within : (n a : ℕ) → ((i : ℕ) → member a i ≡ true → i < n) → within n a ≡ true

@@ -1,8 +1,9 @@
 -- Station sets (document 01, "Stations, sets, configurations"): "A station set is 16 bits: bit i is station i."
 -- A station is a replica of source 000, and a station set a set of replica names.
-use Rattle.std.specs.Prelude.{Bool, not, cond, ◌&&◌, ℕ, ◌-◌, ◌/◌, ◌%◌, ◌^◌, min, leb, ltb, eqb}
+use Rattle.std.specs.Prelude.{Bool, not, cond, ◌&&◌, List, ℕ, ◌-◌, ◌/◌, ◌%◌, ◌^◌, min, leb, ltb, eqb}
 use Rattle.std.specs.Int.Bits.{bit_and, bit_or}
 use Rattle.std.specs.Int.Count.{count_trailing_zeros}
+use Rattle.basics.specs.Listing.{passing}
 
 -- "A table has n stations, 1 to 16": a number of stations that there can be
 abbrev pub listed_stations : ℕ → Bool
@@ -11,6 +12,10 @@ listed_stations n = leb 1 n && leb n 16
 -- station i is in the set
 unfoldable pub member : ℕ → ℕ → Bool
 member set i = eqb (set / 2 ^ i % 2) 1
+
+-- the stations of a set of 16 bits, in rising number
+abbrev pub rising : ℕ → List ℕ
+rising set = passing (member set) 16
 
 -- the set has a station
 unfoldable pub used : ℕ → Bool

@@ -1,5 +1,5 @@
 -- Known bytes, moved one piece after the other.
-use Rattle.std.proofs.Common.{◌≡◌, true, false, Option, Some, None, Result, Ok, Err, OnOk, is_err, IfSome}
+use Rattle.std.proofs.Common.{◌≡◌, Option, Some, None, IfSome}
 use Rattle.std.proofs.Common.{List, [], ◌++◌, ℕ, ◌+◌, ◌-◌, ◌≤◌, length, take, sym, ap, ◌∙◌, append-nil, arith}
 use lib.Seq.{take-add}
 use Rattle.std.specs.Io.KnownBytes.{Appends, IsAtEnd}
@@ -39,11 +39,6 @@ pub written_none : (a : Option (List ℕ)) (h : InHand) → Appends a a (printed
 unfolding printed_by
 written_none a h = Appends-nil a
 
--- what was sent is there
-pub sent : {E P : Type 0} (r : Result Unit E) → OnOk r P → is_err r ≡ false → P
-sent (Err e) h none = cc
-sent (Ok x) h none = h
-
 pub written_more : (a b c : Option (List ℕ)) (h : InHand) (piece table line out : List ℕ) (s : Fed) (table' line' out' : List ℕ) (r : Fed)
     → Takes piece table line out s table' line' out' r → s.out ≡ 0 → UpTo h piece table line s
     → Appends a b (printed_by h (take s.at piece)) → Appends b c (take r.out out') → Appends a c (printed_by h (take r.at piece))
@@ -58,8 +53,8 @@ run_none a p h e = record { all = []; taken = Consumes-nil a; written = Appends-
 
 pub run_more : (a b c p q r : Option (List ℕ)) (input table line : List ℕ) (s : AfterRead) (table' line' : List ℕ) (x : AfterRead)
     → RunSoFar a b p q (in_hand table s.used line s.len) → Moved b c q r (in_hand table s.used line s.len) input x.read
-    → AnswersPiece (take x.read input) table line s table' line' x → x.whole ≡ true → RunSoFar a c p r (in_hand table' x.used line' x.len)
-run_more a b c p q r input table line s table' line' x before moved answered whole =
+    → AnswersPiece (take x.read input) table line s table' line' x → RunSoFar a c p r (in_hand table' x.used line' x.len)
+run_more a b c p q r input table line s table' line' x before moved answered =
     let last = take x.read input in
     let h = in_hand table s.used line s.len in
     let w : Appends p r (printed_by start before.all ++ printed_by h last) = Appends-trans p q r _ _ before.written moved.written in
@@ -67,7 +62,7 @@ run_more a b c p q r input table line s table' line' x before moved answered who
       all = before.all ++ last;
       taken = Consumes-trans a b c _ _ before.taken moved.taken;
       written = rw (printed-append start before.all last, ← before.state) w;
-      state = answered.to_its_end whole ∙ rw before.state (sym (after-append start before.all last));
+      state = answered ∙ rw before.state (sym (after-append start before.all last));
     }
 
 -- at the end of input, after its last line

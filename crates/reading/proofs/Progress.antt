@@ -1,13 +1,12 @@
 -- Feeding a piece into an empty output, over and over, goes forward, and comes to what the definition has for the piece.
 use mathlib.Core.Path.{◌≡◌, refl, sym, ap, ◌∙◌}
-use mathlib.Core.Bool.{true, false, false≢true}
 use mathlib.Core.List.{List, [], ◌++◌}
 use mathlib.Core.Logic.{◌⊎◌, inl, inr}
 use Prim.Native.Nat.{ℕ, ◌+◌, ◌-◌, ◌≤◌, ◌<◌}
 use native.Mathlib.Omega.{arith}
 use lib.Dec.{ltb}
 use lib.ListN.{length, take, drop}
-use lib.Seq.{take-add, take_all, take_at}
+use lib.Seq.{take-add, take_at}
 use borrow.Author.Tests.{ltb-true, ltb-false}
 use Rattle.basics.specs.Bytes.{over}
 use Rattle.basics.proofs.Tests.{either}
@@ -17,7 +16,7 @@ use Rattle.runs.proofs.Pieces.{after-append}
 use Rattle.lines.specs.Splitting.{stretch}
 use Rattle.feeding.specs.Buffers.{in_hand, Fits, Takes}
 use Rattle.feeding.specs.declared.Fed.{Fed}
-use Rattle.reading.specs.Between.{AnswersPiece, AfterInput, Stopped}
+use Rattle.reading.specs.Between.{AnswersPiece, AfterInput}
 use Rattle.reading.specs.declared.AfterRead.{AfterRead}
 
 -- from h on the piece was answered up to a place
@@ -58,34 +57,10 @@ fits_at at f =
       out_fits = omega arith;
     }
 
-pub fits_none : {table line out : List ℕ} {s : Fed} → Fits table line out s
-    → Fits table line out (record { at = 0; len = 0; used = s.used; out = 0 })
-fits_none f =
-    record {
-      table_length_lem = f.table_length_lem;
-      table_fits = f.table_fits;
-      line_length = f.line_length;
-      line_fits = omega arith;
-      out_fits = omega arith;
-    }
-
 pub up_to_none : (piece table line : List ℕ) (s : Fed) → s.at ≡ 0
     → UpTo (in_hand table s.used line s.len) piece table line s
 unfolding after_piece
 up_to_none piece table line s z = rw z
-
-pub up_to_all : (h : InHand) (piece table line : List ℕ) (s : Fed) → UpTo h piece table line s → length piece ≤ s.at
-    → in_hand table s.used line s.len ≡ after_piece h piece
-up_to_all h piece table line s so_far all = so_far ∙ rw (take_all s.at piece all)
-
--- the piece was answered to its end, or something failed
-module _ {piece table line : List ℕ} {s : AfterRead} {table' line' : List ℕ} {r : AfterRead} where
-  pub to_its_end : r.whole ≡ true → in_hand table' r.used line' r.len ≡ after_piece (in_hand table s.used line s.len) piece
-      → AnswersPiece piece table line s table' line' r
-  to_its_end whole h = record { to_its_end = λ _. h; or_dropped = λ e. absurd (false≢true (sym e ∙ whole)) }
-
-  pub dropped : r.whole ≡ false → r.len ≡ 0 → AnswersPiece piece table line s table' line' r
-  dropped failed none = record { to_its_end = λ e. absurd (false≢true (sym failed ∙ e)); or_dropped = λ _. none }
 
 -- ---- reads, one after the other
 pub reached_none : (input table line : List ℕ) (s : AfterRead) → s.used ≡ 0 → s.len ≡ 0 → s.read ≡ 0 → AfterInput input table line s
@@ -93,16 +68,13 @@ unfolding after_piece
 reached_none input table line s u l r = record { earlier = []; state = rw (u, l, r) }
 
 pub reached_more : (input table line : List ℕ) (s : AfterRead) (input' table' line' : List ℕ) (r : AfterRead) → AfterInput input table line s
-    → AnswersPiece (take r.read input') table line s table' line' r → r.whole ≡ true → AfterInput input' table' line' r
-reached_more input table line s input' table' line' r h a whole =
+    → AnswersPiece (take r.read input') table line s table' line' r → AfterInput input' table' line' r
+reached_more input table line s input' table' line' r h a =
     let before = h.earlier ++ take s.read input in
     record {
       earlier = before;
-      state = a.to_its_end whole ∙ rw h.state (sym (after-append start before (take r.read input')));
+      state = a ∙ rw h.state (sym (after-append start before (take r.read input')));
     }
-
-pub done : {input table line : List ℕ} {s : AfterRead} → AfterInput input table line s → s.whole ≡ true → Stopped input table line s
-done h whole = record { reached = λ _. h; or_dropped = λ e. absurd (false≢true (sym e ∙ whole)) }
 
 -- ---- the last reply line, at the front of the output
 pub in_front_lem : (out line : List ℕ) → take (length line) (over out 0 line) ≡ line

@@ -1,9 +1,9 @@
 -- What the runner has in hand between two reads. No contract says which bytes the system's streams move, nor when a read or a write fails. So this fixes how
 -- table and line are carried from piece to piece (`AnswersPiece`), and that from read to read they are such as the definition has (`AfterInput`), while
 -- nothing fails; what the program reads and prints is tested.
--- `AfterRead` has the lengths in use of the table (`used`) and of the line so far (`len`), how many bytes the last read gave (`read`), and whether all
--- that was read was answered (`whole`).
-use Rattle.std.specs.Prelude.{◌≡◌, true, false, Option, List, ◌++◌, ℕ, ◌≤◌, ◌<◌, length, take}
+-- `AfterRead` has the lengths in use of the table (`used`) and of the line so far (`len`), and how many bytes the last read gave (`read`). Where a read
+-- or a write fails there are none.
+use Rattle.std.specs.Prelude.{◌≡◌, Option, Result, IfOk, List, ◌++◌, ℕ, ◌≤◌, ◌<◌, length, take}
 use Rattle.std.specs.Io.KnownBytes.{Appends, Consumes, IsAtEnd}
 use Rattle.replies.specs.ReplyLine.{reply_line_size}
 use Rattle.runs.specs.Pieces.{InHand, enough, start, after_piece, printed_by}
@@ -24,11 +24,10 @@ Ready table line out s = Fits table line out (begin s) × (reply_line_size ≤ l
 abbrev pub RightSizes : List ℕ → List ℕ → List ℕ → Type 0
 RightSizes table line out = (length table ≡ largest) × (length line ≡ enough) × (reply_line_size ≤ length out)
 
--- From s to r a piece was answered to its end, and what is in hand is what the definition has after it; or a read or a write failed,
--- and no line is in hand: document 01 leaves free what becomes of it, and it may have been cut in the middle of a frame.
-pub record AnswersPiece (piece table line : List ℕ) (s : AfterRead) (table' line' : List ℕ) (r : AfterRead) : Type 0 where
-  pub to_its_end : r.whole ≡ true → in_hand table' r.used line' r.len ≡ after_piece (in_hand table s.used line s.len) piece
-  pub or_dropped : r.whole ≡ false → r.len ≡ 0
+-- From s to r a piece was answered to its end, and what is in hand is what the definition has after it. (Where a read or a write failed, no line is in
+-- hand: document 01 leaves free what becomes of it, and it may have been cut in the middle of a frame.)
+abbrev pub AnswersPiece : List ℕ → List ℕ → List ℕ → AfterRead → List ℕ → List ℕ → AfterRead → Type 0
+AnswersPiece piece table line s table' line' r = in_hand table' r.used line' r.len ≡ after_piece (in_hand table s.used line s.len) piece
 
 -- What is in hand is what the definition has, from the start, after some bytes, those of earlier reads, and after those that the last read left in
 -- the input buffer.
@@ -36,10 +35,9 @@ pub record AfterInput (input table line : List ℕ) (s : AfterRead) : Type 0 whe
   pub earlier : List ℕ
   pub state : in_hand table s.used line s.len ≡ after_piece start (earlier ++ take s.read input)
 
--- after the last read: reached, or dropped
-pub record Stopped (input table line : List ℕ) (s : AfterRead) : Type 0 where
-  pub reached : s.whole ≡ true → AfterInput input table line s
-  pub or_dropped : s.whole ≡ false → s.len ≡ 0
+-- after the last read: reached, or something failed, and no line is in hand
+abbrev pub Stopped : {E : Type 0} → List ℕ → List ℕ → List ℕ → Result AfterRead E → Type 0
+Stopped input table line r = IfOk r (AfterInput input table line)
 
 -- ---- where the bytes that a reader has left are known, and those that a writer holds; of the system's streams they are not
 -- One read from a to b: its n bytes in the input buffer were taken, and what the definition prints for them, from h on, went to the

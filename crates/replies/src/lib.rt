@@ -17,7 +17,7 @@ const REPLY_SIZE: usize = 26;
 pub const REPLY_LINE_SIZE: usize = 53;
 
 // "A line ends with byte 0A, read or printed."
-pub const LINE_END: u8 = 10;
+pub const LINE_END: u8 = b'\n';
 
 fn reply_bytes(call: u8, r: Reply) -> [u8; REPLY_SIZE]
     ensures { result ≡ reply_bytes call r }
@@ -36,10 +36,9 @@ fn write_hex(bytes: &[u8], out: &mut [u8], at: usize)
     requires { at + 2 * length bytes.now ≤ length out.old }
     ensures { out.new ≡ over out.old at (hex_of bytes.now) }
 {
-    for k in 0..bytes.len() {
-        let byte = bytes[k];
-        out[at + 2 * k] = hex::high_digit(byte);
-        out[at + 2 * k + 1] = hex::low_digit(byte);
+    for (k, byte) in bytes.iter().enumerate() {
+        out[at + 2 * k] = hex::high_digit(*byte);
+        out[at + 2 * k + 1] = hex::low_digit(*byte);
     }
 }
 

@@ -2,7 +2,7 @@
 use mathlib.Core.Path.{◌≡◌, refl, sym, ap, ◌∙◌}
 use mathlib.Core.Bool.{Bool, true}
 use mathlib.Core.List.{List}
-use mathlib.Core.Option.{Option}
+use Rattle.std.specs.Prelude.{Option}
 use Prim.Native.Nat.{ℕ, ◌+◌, ◌≤◌, ◌<◌}
 use native.Mathlib.Omega.{arith}
 use lib.ListN.{length}
@@ -10,7 +10,6 @@ use Rattle.layout.specs.Layout.{copy_size, address}
 use Rattle.layout.specs.Fields.{stations, items, round_of, copy_from, copies_of}
 use Rattle.layout.specs.Soundness.{sound}
 use Rattle.quorum.specs.Configurations.{first_read, holds_read}
-use Rattle.quorum.specs.declared.Place.{Place}
 use Rattle.layout.specs.Newest.{by_generation, heard_place, hears}
 use Rattle.layout.specs.View.{view, own, read_place, heard}
 use Rattle.layout.specs.Walk.{Walked, walk}
@@ -28,7 +27,7 @@ module _ (t : List ℕ) (n item set : ℕ) {newest : Newest} (e : HasFound t n i
   pub config_is : config ≡ (by_generation (copies_of t n item) set n).config
   config_is = c ∙ ap (λ x. x.config) (sym (generation_found (copies_of t n item) set n e))
 
-  pub place_there : {place : Place} → place ≡ first_read config set → place ≡ heard_place (copies_of t n item) set n
+  pub place_there : {place : Option ℕ} → place ≡ first_read config set → place ≡ heard_place (copies_of t n item) set n
   place_there p = p ∙ ap (λ x. first_read x set) config_is
 
   pub hears_there : {test : Bool} → test ≡ holds_read config set → test ≡ hears (copies_of t n item) set n
@@ -46,28 +45,28 @@ items_in_table t e item l =
 pub copies_in_table : (t : List ℕ) → sound t ≡ true → {n i : ℕ} → n ≡ stations t → i < items t → InTable t n i
 copies_in_table t e a l = rw a (items_in_table t e _ l)
 
--- ---- the open round of a sound table, by the stations, the item and the polled set that were read
+-- ---- the open round of a sound table, by the bytes, the stations, the item and the polled set that were read
 -- the need of the walk
 pub own_copies : (t : List ℕ) → sound t ≡ true → {n i : ℕ} → n ≡ stations t → i ≡ (round_of t).item → InTable t n i
 unfolding view
 own_copies t e a b = rw (a, b) (items_in_table t e (round_of t).item (sound_facts t e).state.item)
 
-module _ (t : List ℕ) {n i p : ℕ} (a : n ≡ stations t) (b : i ≡ (round_of t).item) (c : p ≡ (round_of t).polled) where
-  pub own-walk : {o : Option Walked} → o ≡ walk (copies_of t n i) p n → o ≡ own_walk t
+module _ (t : List ℕ) {u : List ℕ} {n i p : ℕ} (same : u ≡ t) (a : n ≡ stations t) (b : i ≡ (round_of t).item) (c : p ≡ (round_of t).polled) where
+  pub own_walked : {o : Option Walked} → o ≡ walk (copies_of u n i) p n → o ≡ own_walk t
   unfolding view
-  own-walk e = rw (a, b, c) at e
+  own_walked e = rw (same, a, b, c) at e
 
-  pub own_found : {newest : Newest} → OwnFound t newest → HasFound t n i p newest
+  pub own_found : {newest : Newest} → OwnFound t newest → HasFound u n i p newest
   unfolding view
-  own_found e = rw (a, b, c) e
+  own_found e = rw (same, a, b, c) e
 
-  pub own-hears : {r : Bool} → r ≡ hears (copies_of t n i) p n → r ≡ heard (view t)
+  pub own_heard : {r : Bool} → r ≡ hears (copies_of u n i) p n → r ≡ heard (view t)
   unfolding view
-  own-hears e = rw (a, b, c) at e
+  own_heard e = rw (same, a, b, c) at e
 
-  pub own_place : {place : Place} → place ≡ heard_place (copies_of t n i) p n → place ≡ read_place (view t)
+  pub own_place : {place : Option ℕ} → place ≡ heard_place (copies_of u n i) p n → place ≡ read_place (view t)
   unfolding view
-  own_place e = rw (a, b, c) at e
+  own_place e = rw (same, a, b, c) at e
 
 -- the copy at a station: it is there, and one of the round's
 module _ (t : List ℕ) (e : sound t ≡ true) {s : ℕ} (l : s < stations t) {a : ℕ} (q : a ≡ address (stations t) (round_of t).item s) where

@@ -2,16 +2,17 @@
 ghost use Rattle.std.specs.Prelude.{◌≡◌, true, ◌≤◌, length};
 ghost use Rattle.layout.specs.Layout.{head_size};
 ghost use Rattle.layout.specs.Rounds.{with_poll, with_put, with_link};
-ghost use Rattle.rounds.specs.Round.{round_in, as_round};
+ghost use Rattle.layout.specs.Fields.{round_of};
+ghost use Rattle.rounds.specs.Round.{as_round, is_data};
 
-use layout::TARGET_AT;
+use layout::{Kind, Sort, TARGET_AT};
 use quorum::CONFIG_SIZE;
 use table::head;
 use table::number::config_bytes_at;
 
 #[derive(Clone, Copy)]
 pub struct Round {
-    pub kind: u8,
+    pub kind: Option<Kind>,
     pub item: usize,
     pub polled: u16,
     pub data_puts: u16,
@@ -24,7 +25,7 @@ impl Round {
     // The round of the table.
     pub fn of(t: &[u8]) -> Round
         requires { head_size ≤ length t.now }
-        ensures { result ≡ round_in t.now }
+        ensures { as_round result ≡ round_of t.now }
     {
         Round {
             kind: head::kind(t),
@@ -47,15 +48,14 @@ impl Round {
     }
 
     // The station joins a put set.
-    pub fn put(self, station: usize, is_data: bool) -> Round
-        ensures { as_round result ≡ with_put (as_round self) station is_data }
+    pub fn put(self, station: usize, sort: Sort) -> Round
+        ensures { as_round result ≡ with_put (as_round self) station (is_data sort) }
     {
         let mut r = self;
-        if is_data {
-            r.data_puts = sets::with_station(self.data_puts, station);
-            return r;
+        match sort {
+            Sort::Data => r.data_puts = sets::with_station(self.data_puts, station),
+            Sort::Configuration => r.config_puts = sets::with_station(self.config_puts, station),
         }
-        r.config_puts = sets::with_station(self.config_puts, station);
         r
     }
 

@@ -34,7 +34,8 @@ use Rattle.plan.proofs.Plan.{polls_same, puts_same}
 use Rattle.rules.specs.Calls.{Call, lay, open_read, open_write, open_change, poll, put, commit, abandon, link, reach, diagnose, plan, is_lay, is_data, is_off}
 use Rattle.rules.specs.Passed.{Passable}
 use Rattle.rules.specs.Rules.{tests, number_of, first, idle, no_item, no_size, no_sort, no_link, wrong_put, last, spent, spent_at_put, written}
-use Rattle.rules.specs.Figures.{Figures, figures_of, closing, one_figure, reach_figure}
+use Rattle.rules.specs.Figures.{figures_of, closing, one_figure, reach_figure}
+use Rattle.rules.specs.declared.Figures.{Figures}
 use Rattle.rules.specs.Reply.{reply_of, reply, after, answer}
 use Rattle.rules.specs.declared.Reply.{Reply}
 use Rattle.rules.specs.Lists.{replies, after_all, AllPassable}

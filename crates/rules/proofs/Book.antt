@@ -20,7 +20,8 @@ use Rattle.form.specs.Form.{standard_form}
 use Rattle.layout.proofs.Stored.{stored}
 use Rattle.rules.specs.Calls.{lay, commit}
 use Rattle.rules.specs.Rules.{idle, written}
-use Rattle.rules.specs.Figures.{Figures, closing}
+use Rattle.rules.specs.Figures.{closing}
+use Rattle.rules.specs.declared.Figures.{Figures}
 use Rattle.rules.specs.After.{stores}
 use Rattle.rules.specs.Book.{Entry, Noted, none, read, write, change, Book, started, entry, finish, step}
 use Rattle.rules.proofs.Judged.{a_round}

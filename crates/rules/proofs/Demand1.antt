@@ -10,7 +10,8 @@ use borrow.Author.Tests.{ne_eqb}
 use Rattle.layout.specs.View.{State, view}
 use Rattle.rules.specs.Calls.{Call}
 use Rattle.rules.specs.Rules.{number_of}
-use Rattle.rules.specs.Figures.{Figures, figures_of, no_figures}
+use Rattle.rules.specs.Figures.{figures_of, no_figures}
+use Rattle.rules.specs.declared.Figures.{Figures}
 use Rattle.rules.specs.Reply.{reply_of, reply, after, answer}
 use Rattle.rules.specs.Needs.{needs}
 use Rattle.rules.specs.Demand1.{ZeroFigures, HasFigures, ListedNumber}

@@ -22,5 +22,6 @@ pub mod OutOfReach
 pub mod ReachExact
 pub mod Twice
 pub mod Room
+pub mod Outcomes
 pub mod DiagnoseExact
 pub mod Demands

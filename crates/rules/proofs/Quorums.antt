@@ -7,7 +7,7 @@ use Prim.Native.Nat.{ℕ}
 use borrow.Author.Tests.{eqb-true, eq-eqb, not-false}
 use Rattle.basics.proofs.Tests.{clash, fails, and_left, and_right, and_both}
 use Rattle.quorum.specs.Configurations.{first_read, place_figure}
-use Rattle.quorum.specs.declared.Place.{Place}
+use Rattle.std.specs.Prelude.{Option}
 use Rattle.quorum.proofs.Promise.{promise}
 use Rattle.layout.specs.Fields.{last_count, Kind, none, read, write, change}
 use Rattle.layout.specs.Newest.{by_generation, heard_place, hears}
@@ -79,7 +79,7 @@ module _ (v : State) where
     abbrev config : List ℕ
     config = (by_generation (v.copies i) set v.n).config
 
-    abbrev place : Place
+    abbrev place : Option ℕ
     place = first_read config set
 
     pub place_shown : PlaceShown v i set (place_figure (heard_place (v.copies i) set v.n))

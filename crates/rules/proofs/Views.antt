@@ -20,7 +20,8 @@ use Rattle.layout.proofs.Held.{with_round, Holds, holds-round}
 use Rattle.layout.proofs.Stored.{Small, copy_small, value_small}
 use Rattle.layout.proofs.Newer.{heard_finds}
 use Rattle.rules.specs.Rules.{spent}
-use Rattle.rules.specs.Figures.{Figures, closing}
+use Rattle.rules.specs.Figures.{closing}
+use Rattle.rules.specs.declared.Figures.{Figures}
 use Rattle.rules.specs.Passed.{Word}
 
 -- ---- the figures of a commit fit into a copy

@@ -7,7 +7,8 @@ use Rattle.layout.specs.Rounds.{with_poll, with_put, with_link}
 use Rattle.layout.specs.View.{Table, State}
 use Rattle.layout.specs.Updates.{set_off, set_polled, set_puts, set_round, no_target, laid, put_copies, closed}
 use Rattle.rules.specs.Calls.{Call, lay, open_read, open_write, open_change, poll, put, commit, abandon, link, reach, diagnose, plan, is_data, is_off}
-use Rattle.rules.specs.Figures.{Figures, closing}
+use Rattle.rules.specs.Figures.{closing}
+use Rattle.rules.specs.declared.Figures.{Figures}
 
 -- the put sets of a round, written
 abbrev pub puts_of : Table → Round → Table

@@ -8,11 +8,7 @@ use Rattle.layout.specs.View.{State, on_bus, own, found_by_version, found_by_gen
 use Rattle.plan.specs.Plan.{planned_polls, planned_puts}
 use Rattle.rules.specs.Calls.{Call, lay, open_read, open_write, open_change, poll, put, commit, abandon, link, reach, diagnose, plan}
 use Rattle.rules.specs.Rules.{number_of}
-
-pub record Figures : Type 0 where
-  pub first : ℕ
-  pub second : ℕ
-  pub third : ℕ
+use Rattle.rules.specs.declared.Figures.{Figures}
 
 abbrev pub no_figures : Figures
 no_figures = record { first = 0; second = 0; third = 0 }

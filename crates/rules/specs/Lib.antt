@@ -1,5 +1,6 @@
 pub mod Calls
 pub mod Rules
+pub mod Outcome
 pub mod Figures
 pub mod After
 pub mod Reply

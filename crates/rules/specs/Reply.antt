@@ -3,7 +3,8 @@ use Rattle.std.specs.Prelude.{cond, ℕ, eqb}
 use Rattle.layout.specs.View.{Table, State, view}
 use Rattle.rules.specs.Calls.{Call}
 use Rattle.rules.specs.Rules.{number_of}
-use Rattle.rules.specs.Figures.{Figures, figures_of}
+use Rattle.rules.specs.Figures.{figures_of}
+use Rattle.rules.specs.declared.Figures.{Figures}
 use Rattle.rules.specs.After.{done}
 use Rattle.rules.specs.declared.Reply.{Reply}
 

@@ -5,7 +5,7 @@ use Rattle.basics.specs.Bytes.{little_endian, bytes_of, over}
 use Rattle.basics.specs.Tests.{all, all_below, any_below}
 use Rattle.quorum.specs.Sets.{member, used, holds, shares, within, join, minus, remove, full}
 use Rattle.quorum.specs.Configurations.{set_at, read_set, write_set, used_first, some_used, all_within, shares_all, all_share}
-use Rattle.quorum.specs.Configurations.{validity, valid, holds_place, first_place, or_else, first_read, first_write, place_figure, is_place}
+use Rattle.quorum.specs.Configurations.{validity, valid, holds_place, first_place, first_read, first_write, place_figure}
 use Rattle.form.specs.Sides.{places, side_bytes, config_bytes}
 use Rattle.form.specs.Form.{is_set_of, contains_another, stays, form_sets, standard_form}
 use Rattle.layout.specs.Layout.{address, table_length}
@@ -41,7 +41,7 @@ pub frame_cases : FrameCases
 unfolding text chars shown little_endian is_digit all_digits value_of byte_of bytes_in frame_length call_byte is_frame calls_of call_at call_of in_front
     lines_of run answers printed table_after reply_to lent lay_length reply_line reply_bytes digit_of hex_of reply_of after number_of tests refusals first view
     figures_of done table_length address sound soundness round_sound copies_valid all all_below any_below valid validity set_at read_set write_set used_first
-    some_used all_within shares_all all_share holds_place first_place or_else first_read first_write place_figure is_place member used holds shares within join
+    some_used all_within shares_all all_share holds_place first_place first_read first_write place_figure member used holds shares within join
     minus remove full copy_from bytes_of over set_off set_polled set_puts set_round put_data put_config copy_bytes repeated put_copies newest by_version
     by_generation hears passing polls_needed puts_needed is_set_of contains_another stays form_sets places side_bytes config_bytes standard_form
     frame_case frame_replies mixed_case mixed_replies

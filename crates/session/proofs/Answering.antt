@@ -16,6 +16,9 @@ use Rattle.rules.specs.Reply.{reply, after}
 use Rattle.rules.specs.declared.Reply.{Reply}
 use Rattle.rules.proofs.Laws.{done-after}
 use Rattle.rules.proofs.Demands.{lay_alone}
+use Rattle.dispatch.specs.Codes.{number_of}
+use Rattle.dispatch.specs.declared.Code.{Code}
+use Rattle.dispatch.specs.declared.Code.TheVariants.{Lay, OpenRead, OpenWrite, OpenChange, Poll, Put, Commit, Abandon, Link, Reach, Diagnose, Plan}
 use Rattle.dispatch.specs.Dispatch.{frame_length, calls_of, call_at, reply_or, after_or}
 use Rattle.dispatch.proofs.Entries.{Each, each_at}
 use Rattle.dispatch.proofs.Codes.{enough}
@@ -43,6 +46,21 @@ module _ (used : ℕ) (arguments : List ℕ) where
       by_cases (λ (b : Bool). lent_length used (cond b none (get_or (calls_of arguments) code none)) ≡ used)
       (ltb (length arguments) (frame_length code - 1)) (λ _. refl)
       (λ _. each_at (λ code o. (code ≡ 1 → ⊥) → lent_length used o ≡ used) (calls_of arguments) none others (λ k past _. refl) code n)
+
+  -- and so for a code that is not lay's
+  pub in_use_but_lay : (code : Code) → (code ≡ Lay → ⊥) → lent_length used (call_at (number_of code) arguments) ≡ used
+  in_use_but_lay Lay n = absurd (n refl)
+  in_use_but_lay OpenRead n = in_use 2 (λ e. absurd (omega arith))
+  in_use_but_lay OpenWrite n = in_use 3 (λ e. absurd (omega arith))
+  in_use_but_lay OpenChange n = in_use 4 (λ e. absurd (omega arith))
+  in_use_but_lay Poll n = in_use 5 (λ e. absurd (omega arith))
+  in_use_but_lay Put n = in_use 6 (λ e. absurd (omega arith))
+  in_use_but_lay Commit n = in_use 7 (λ e. absurd (omega arith))
+  in_use_but_lay Abandon n = in_use 8 (λ e. absurd (omega arith))
+  in_use_but_lay Link n = in_use 9 (λ e. absurd (omega arith))
+  in_use_but_lay Reach n = in_use 10 (λ e. absurd (omega arith))
+  in_use_but_lay Diagnose n = in_use 11 (λ e. absurd (omega arith))
+  in_use_but_lay Plan n = in_use 12 (λ e. absurd (omega arith))
 
   pub needed : length arguments ≡ most_arguments → lent_length used (call_at 1 arguments) ≡ lay_length (number arguments 0 1) (number arguments 1 1)
   unfolding calls_of frame_length

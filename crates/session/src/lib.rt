@@ -3,29 +3,31 @@
 
 ghost use Rattle.std.specs.Prelude.{◌≡◌, ◌+◌, ◌≤◌, length, take};
 ghost use Rattle.basics.specs.Bytes.{over};
+ghost use Rattle.dispatch.specs.Codes.{number_or};
 ghost use Rattle.dispatch.specs.Dispatch.{call_at};
-ghost use Rattle.frames.specs.Reading.{most_arguments};
 ghost use Rattle.replies.specs.ReplyLine.{reply_line_size};
 ghost use Rattle.runs.specs.Session.{table_after, printed};
 ghost use Rattle.layout.specs.Layout.{largest};
 ghost use Rattle.session.specs.Buffer.{InUse, lent_length};
 
-use dispatch::{LAY, perform};
+use dispatch::{Code, perform_frame};
 use frames::frame::{MOST_ARGUMENTS, call_byte, read_frame};
 use replies::write_reply;
 use table::head::lay_length;
-use table::number::byte_at;
 
 // The length of the buffer that a call is lent: what a lay's n and m need, or the table in use.
-fn lent_length(code: u8, arguments: &[u8], used: usize) -> usize
-    requires { (length arguments.now ≡ most_arguments) × (used ≤ largest) }
-    ensures value { result ≡ lent_length used (call_at code arguments.now) }
+fn lent_length(code: Option<Code>, arguments: &[u8; MOST_ARGUMENTS], used: usize) -> usize
+    requires { used ≤ largest }
+    ensures value { result ≡ lent_length used (call_at (number_or code) arguments.now) }
     ensures upper_bound { result ≤ largest }
 {
-    if code != LAY {
+    let Some(code) = code else {
         return used;
+    };
+    match code {
+        Code::Lay => lay_length(arguments[0] as u64, arguments[1] as u64).unwrap_or(0),
+        _ => used,
     }
-    lay_length(byte_at(arguments, 0) as u64, byte_at(arguments, 1) as u64)
 }
 
 // Answers one line, without its end, on the table in the first `used` bytes of the buffer: the reply line goes to a place of
@@ -39,7 +41,7 @@ pub fn answer(line: &[u8], table: &mut [u8], used: usize, out: &mut [u8], at: us
     let mut arguments = [0u8; MOST_ARGUMENTS];
     let code = read_frame(line, call, &mut arguments);
     let lend = lent_length(code, &arguments, used);
-    let r = perform(&mut table[..lend], code, &arguments);
+    let r = perform_frame(&mut table[..lend], code, &arguments);
     write_reply(call, r, out, at);
     if r.number == 0 {
         return lend;

@@ -1,2 +1,3 @@
 mod Words
-mod Sides
+pub mod Sides
+pub mod Rising

@@ -1,9 +1,15 @@
--- What inner functions of the code are held to: a side, given by the place where it starts.
+-- What inner functions of the code are held to: the sets of a side as a list, and whether they are held.
 -- Not for the crates above: a reader needs `first_read` and the like, to which the public functions are proved equal.
-use Rattle.std.specs.Prelude.{List, ℕ, ◌+◌}
-use Rattle.quorum.specs.Configurations.{set_at, holds_place, first_place}
-use Rattle.quorum.specs.declared.Place.{Place}
+use Rattle.std.specs.Prelude.{Bool, false, ◌&&◌, ◌||◌, List, [], ◌∷◌, ℕ, fold}
+use Rattle.quorum.specs.Sets.{used, holds}
 
--- the first place of the side whose set is used and held by the set
-unfoldable pub first_held : List ℕ → ℕ → ℕ → Place
-first_held c side set = first_place (λ k. holds_place (set_at c) set (side + k)) 8
+-- the sets of a side
+abbrev pub eight : (ℕ → ℕ) → List ℕ
+eight side = side 0 ∷ side 1 ∷ side 2 ∷ side 3 ∷ side 4 ∷ side 5 ∷ side 6 ∷ side 7 ∷ []
+
+-- another set is used, and held by the set; one of others is
+abbrev pub is_held : ℕ → ℕ → Bool
+is_held other set = used other && holds set other
+
+abbrev pub any_held : List ℕ → ℕ → Bool
+any_held others set = fold (λ any other. any || is_held other set) false others

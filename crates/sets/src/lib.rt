@@ -1,12 +1,14 @@
 // Station sets and configurations: the tests on them, each equal to its definition in `quorum` on any input.
 #![tactic(auto)]
 
-ghost use Rattle.std.specs.Prelude.{◌≡◌, ◌<◌, ◌≤◌, length};
-ghost use Rattle.quorum.specs.Sets.{member, shares, within, join, unite, minus, remove, lowest, full};
-ghost use Rattle.quorum.specs.Configurations.{config_size, set_at, holds_place, first_read, place_figure, is_place, holds_read, holds_write};
-ghost use Rattle.sets.specs.Inner.{first_held};
+ghost use Rattle.std.specs.Prelude.{◌≡◌, ◌<◌, ◌≤◌, position};
+ghost use Rattle.std.specs.Iterator.{item_count};
+ghost use Rattle.quorum.specs.Sets.{rising, member, shares, within, join, unite, minus, remove, lowest, full};
+ghost use Rattle.quorum.specs.Configurations.{set_at, side_sets, first_read, place_figure, holds_side};
+ghost use Rattle.sets.specs.Walking.{TakesLowest};
+ghost use Rattle.sets.specs.Inner.{eight, is_held, any_held};
 
-use quorum::{CONFIG_SIZE, Place};
+use quorum::{CONFIG_SIZE, SIDE_SIZE, Side};
 
 // Whether the station is in the set.
 pub fn is_member(set: u16, station: usize) -> bool
@@ -83,6 +85,27 @@ pub fn without_lowest(set: u16) -> u16
     if set == 0 { 0 } else { set & (set - 1) }
 }
 
+// The stations of a set, the lowest first.
+#[derive(Drop)]
+pub struct Stations(pub u16);
+
+impl Iterator for Stations {
+    type Item = usize;
+
+    ghost next_gives = { TakesLowest };
+
+    ghost remaining = { item_count (λ s. rising s.0) };
+
+    fn next(&mut self) -> Option<usize> {
+        if self.0 == 0 {
+            return None;
+        }
+        let station = lowest(self.0);
+        self.0 = without_lowest(self.0);
+        Some(station)
+    }
+}
+
 // The set of all of n stations, at most 16.
 pub fn all_stations(n: usize) -> u16
     ensures { result ≡ full n }
@@ -91,98 +114,78 @@ pub fn all_stations(n: usize) -> u16
 }
 
 // The set at a place of a configuration.
-pub fn load_set(config: &[u8], place: usize) -> u16
-    requires { (place < 16) × (length config.now ≡ config_size) }
+pub fn load_set(config: &[u8; CONFIG_SIZE], place: usize) -> u16
+    requires { place < 16 }
     ensures { result ≡ set_at config.now place }
 {
     let at = 2 * place;
-    config[at] as u16 + 256 * (config[at + 1] as u16)
+    u16::from_le_bytes([config[at], config[at + 1]])
 }
 
-// Whether the set at a place is used and held by the set.
-fn place_held(config: &[u8], place: usize, set: u16) -> bool
-    requires { (place < 16) × (length config.now ≡ config_size) }
-    ensures { result ≡ holds_place (set_at config.now) set place }
+// The sets of a side, by their places. They are loaded in this order, so that the compiler keeps them in one register.
+pub fn load_side(config: &[u8; CONFIG_SIZE], side: Side) -> [u16; SIDE_SIZE]
+    ensures { result ≡ eight (side_sets side config.now) }
 {
-    let other = load_set(config, place);
+    let start = side.start();
+    let s7 = load_set(config, start + 7);
+    let s6 = load_set(config, start + 6);
+    let s5 = load_set(config, start + 5);
+    let s4 = load_set(config, start + 4);
+    let s3 = load_set(config, start + 3);
+    let s2 = load_set(config, start + 2);
+    let s1 = load_set(config, start + 1);
+    let s0 = load_set(config, start);
+    [s0, s1, s2, s3, s4, s5, s6, s7]
+}
+
+// Whether the other set is used and held by the set.
+fn is_held(other: u16, set: u16) -> bool
+    ensures { result ≡ is_held other set }
+{
     (other != 0) & (set & other == other)
 }
 
-// Whether a used set of the side that starts at a place is held by the set. No branch: it is asked more often than which set it is.
-fn any_held(config: &[u8], side: usize, set: u16) -> bool
-    requires { (side ≤ 8) × (length config.now ≡ config_size) }
-    ensures { result ≡ is_place (first_held config.now side set) }
+// Whether a used one of the sets is held by the set. No branch: it is asked more often than which set it is.
+fn any_held(others: [u16; SIDE_SIZE], set: u16) -> bool
+    ensures { result ≡ any_held others set }
 {
-    let mut any = false;
-    for k in 0..8usize {
-        any = any | place_held(config, side + k, set);
-    }
-    any
+    others
+        .iter()
+        .fold(false, |any, other| any | is_held(*other, set))
 }
 
-// The first place of the side that starts at a place whose set is used and held by the set.
-fn first_held(config: &[u8], side: usize, set: u16) -> Place
-    requires { (side ≤ 8) × (length config.now ≡ config_size) }
-    ensures { result ≡ first_held config.now side set }
+// The first place of a side whose set is used and held by the set.
+fn first_held(others: [u16; SIDE_SIZE], set: u16) -> Option<usize>
+    ensures { result ≡ position (λ other. is_held other set) others }
 {
-    for k in 0..8usize {
-        if place_held(config, side + k, set) {
-            return Place::At(k);
-        }
-    }
-    Place::Nowhere
+    others.iter().position(|other| is_held(*other, set))
 }
 
 // The first read place whose set the given set holds.
-pub fn first_read_place(config: &[u8], set: u16) -> Place
+pub fn first_read_place(config: &[u8], set: u16) -> Option<usize>
     ensures { result ≡ first_read config.now set }
 {
-    if config.len() == CONFIG_SIZE {
-        first_held(config, 0, set)
-    } else {
-        Place::Nowhere
-    }
-}
-
-// Whether there is a place.
-pub fn is_place(place: Place) -> bool
-    ensures { result ≡ is_place place }
-{
-    match place {
-        Place::At(_) => true,
-        Place::Nowhere => false,
-    }
+    let config = config.as_array()?;
+    first_held(load_side(config, Side::Read), set)
 }
 
 // One plus the place, or 0.
-pub fn place_figure(place: Place) -> u64
+pub fn place_figure(place: Option<usize>) -> u64
     requires { place_figure place ≤ 8 }
     ensures { result ≡ place_figure place }
 {
     match place {
-        Place::At(k) => k as u64 + 1,
-        Place::Nowhere => 0,
+        Some(k) => k as u64 + 1,
+        None => 0,
     }
 }
 
-// Whether the set holds a read set of the configuration.
-pub fn holds_read_set(config: &[u8], set: u16) -> bool
-    ensures { result ≡ holds_read config.now set }
+// Whether the set holds a set of that side of the configuration.
+pub fn holds_side(config: &[u8], side: Side, set: u16) -> bool
+    ensures { result ≡ holds_side side config.now set }
 {
-    if config.len() == CONFIG_SIZE {
-        any_held(config, 0, set)
-    } else {
-        false
-    }
-}
-
-// Whether the set holds a write set of the configuration.
-pub fn holds_write_set(config: &[u8], set: u16) -> bool
-    ensures { result ≡ holds_write config.now set }
-{
-    if config.len() == CONFIG_SIZE {
-        any_held(config, 8, set)
-    } else {
-        false
+    match config.as_array() {
+        Some(config) => any_held(load_side(config, side), set),
+        None => false,
     }
 }

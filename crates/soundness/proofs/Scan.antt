@@ -5,16 +5,24 @@ use mathlib.Core.List.{List, [], ◌∷◌}
 use Prim.Native.Nat.{ℕ, zero, suc, ◌+◌, ◌-◌, ◌*◌, ◌≤◌, ◌<◌}
 use native.Mathlib.Omega.{arith}
 use native.Mathlib.Nat.{add_assoc, add-zero, add-suc, mul_comm, suc-mul, zero-mul, mul-le-mul, le_of_suc-le-suc}
-use lib.ListN.{length, get_or, take, drop}
+use lib.ListN.{length, get_or, take, drop, length-take}
 use lib.Dec.{ltb, leb, eqb}
-use borrow.Author.Tests.{eq-eqb, eqb-true, leb-true}
+use borrow.Author.Tests.{eq-eqb, eqb-true}
 use Rattle.basics.specs.Tests.{all, all_below}
-use Rattle.basics.specs.Bytes.{number}
+use Rattle.basics.specs.Bytes.{little_endian, number}
+use Rattle.std.specs.Prelude.{fold}
+use Rattle.std.specs.Simd.{first_chunks}
+use lib.Seq.{drop-drop, take_all}
 use Rattle.quorum.specs.Sets.{shares, within, unite}
 use Rattle.quorum.specs.Configurations.{valid}
 use Rattle.validity.specs.Rows.{valid_at, valid_to}
 use Rattle.basics.proofs.Tests.{same_test, and_left, and_right, and_both, all_true, all_same}
 use Rattle.basics.proofs.Bytes.{number_none, number-suc, number_one}
+use Rattle.std.specs.Prelude.{Option, Some, None}
+use Rattle.std.specs.Option.{option_eq}
+use Rattle.layout.specs.declared.Kind.{Kind as CodeKind}
+use Rattle.layout.specs.declared.Kind.TheVariants.{Read, Write, Change}
+use Rattle.table.specs.Kinds.{as_kind}
 use Rattle.quorum.proofs.Promise.{promise}
 use Rattle.layout.proofs.Sizes.{sized, product_le}
 use Rattle.layout.specs.Layout.{kind_at, item_at, spare_at, target_at, copy_config_at, copy_size, address, table_length}
@@ -54,16 +62,23 @@ unfolding all_below
 bytes_zero t at zero = rw (number_none t at)
 bytes_zero t at (suc k) = rw (bytes_zero t at k, last-zero t at k)
 
--- word by word
-pub no_words_zero : (t : List ℕ) (at : ℕ) → is_zero t at (8 * 0) ≡ true
-no_words_zero t at = rw (number_none t at)
+-- bytes one after the other
+zero-add : (t : List ℕ) (at a b : ℕ) → is_zero t at (a + b) ≡ (is_zero t at a && is_zero t (at + a) b)
+zero-add t at a b =
+    sym (bytes_zero t at (a + b)) ∙ all-add (λ j. eqb (get_or t (at + j) 0) 0) a b
+    ∙ and_same (bytes_zero t at a)
+    (all_same _ _ b (λ j _. ap (λ i. eqb (get_or t i 0) 0) (sym (add_assoc at a j))) ∙ bytes_zero t (at + a) b)
 
-pub words_zero : (t : List ℕ) (at k : ℕ) → is_zero t at (8 * (k + 1)) ≡ (is_zero t at (8 * k) && eqb (number t (at + 8 * k) 8) 0)
-words_zero t at k =
-    let e : 8 * (k + 1) ≡ 8 * k + 8 = omega arith in
-    ap (is_zero t at) e ∙ sym (bytes_zero t at (8 * k + 8)) ∙ all-add (λ j. eqb (get_or t (at + j) 0) 0) (8 * k) 8
-    ∙ and_same (bytes_zero t at (8 * k))
-    (all_same _ _ 8 (λ j _. ap (λ i. eqb (get_or t i 0) 0) (sym (add_assoc at (8 * k) j))) ∙ bytes_zero t (at + 8 * k) 8)
+-- word by word
+one_word : (l : List ℕ) → is_zero (take 8 l) 0 8 ≡ eqb (little_endian (take 8 l)) 0
+one_word l = ap (λ x. eqb (little_endian x) 0) (take_all 8 (take 8 l) (simp length-take (omega arith)))
+
+pub words_zero : (t : List ℕ) (at k : ℕ) (ok : Bool)
+    → fold (λ all word. all && is_zero word 0 8) ok (first_chunks 8 k (drop at t)) ≡ (ok && is_zero t at (8 * k))
+words_zero t at zero ok = rw (number_none t at) (sym (and-true ok))
+words_zero t at (suc k) ok =
+    let e : 8 * suc k ≡ 8 + 8 * k = omega arith in
+    rw (e, zero-add t at 8 (8 * k), drop-drop 8 at t, one_word (drop at t)) (words_zero t (at + 8) k (ok && is_zero t at 8) ∙ and_assoc ok _ _)
 
 -- the first word of a round's part, where its first byte, the kind, is zero
 pub kind_word : (t : List ℕ) → number t kind_at 1 ≡ 0 → is_zero t kind_at (8 * 1) ≡ is_zero t item_at 7
@@ -191,33 +206,41 @@ size_facts t e =
 pub bytes_product : (t : List ℕ) → get_or t 0 0 < 256 → get_or t 1 0 < 256 → stations t * items t ≤ 65025
 bytes_product t h g = rw (number_one t 0, number_one t 1) (mul-le-mul (le_of_suc-le-suc h) (le_of_suc-le-suc g))
 
--- ---- kinds of rounds, by their numbers
--- a kind of round above 2 counts as a change
-pub other_kind : (k : ℕ) → 3 ≤ k → kind_of k ≡ change
-other_kind zero h = absurd (omega arith)
-other_kind (suc zero) h = absurd (omega arith)
-other_kind (suc (suc zero)) h = absurd (omega arith)
-other_kind (suc (suc (suc k))) h = refl
+-- ---- kinds of rounds
+-- where there is no round, the byte is zero
+pub no_kind : (k : ℕ) → kind_of k ≡ none → k ≡ 0
+no_kind zero e = refl
+no_kind (suc zero) e = absurd (cc)
+no_kind (suc (suc zero)) e = absurd (cc)
+no_kind (suc (suc (suc k))) e = absurd (cc)
+
+-- the code's test for a change, by a test of two kinds
+module _ (same : CodeKind → CodeKind → Bool) where
+  pub is_change : (k : Option CodeKind) → same Read Change ≡ false → same Write Change ≡ false → option_eq same k (Some Change) ≡ true
+      → as_kind k ≡ change
+  is_change None r w e = absurd (cc)
+  is_change (Some Read) r w e = absurd (cc)
+  is_change (Some Write) r w e = absurd (cc)
+  is_change (Some Change) r w e = refl
+
+  pub is_no_change : (k : Option CodeKind) → same Change Change ≡ true → option_eq same k (Some Change) ≡ false → as_kind k ≡ change → ⊥
+  is_no_change None c e q = absurd (cc)
+  is_no_change (Some Read) c e q = absurd (cc)
+  is_no_change (Some Write) c e q = absurd (cc)
+  is_no_change (Some Change) c e q = absurd (cc)
 
 -- one of the kinds that is no change has no target to be tested
-no_target_lem : (t : List ℕ) (k : ℕ) → k ≤ 3 → (k ≡ 3 → ⊥) → target_sound t (kind_of k) ≡ true
+no_target_lem : (t : List ℕ) (k : Kind) → (k ≡ change → ⊥) → target_sound t k ≡ true
 unfolding target_sound
-no_target_lem t zero h ne = refl
-no_target_lem t (suc zero) h ne = refl
-no_target_lem t (suc (suc zero)) h ne = refl
-no_target_lem t (suc (suc (suc zero))) h ne = absurd (ne refl)
-no_target_lem t (suc (suc (suc (suc k)))) h ne = absurd (omega arith)
-
--- a head that is sound has a kind in range
-kind_in_range : (t : List ℕ) → head_sound t ≡ true → number t kind_at 1 ≤ 3
-unfolding head_sound
-kind_in_range t e = leb-true _ _ (and_left _ _ (and_left _ _ (and_left _ _ (and_left _ _ (and_left _ _ e)))))
+no_target_lem t none ne = refl
+no_target_lem t read ne = refl
+no_target_lem t write ne = refl
+no_target_lem t change ne = absurd (ne refl)
 
 -- ---- past the tests of length and head: what is left, for a change and for any other kind
-pub sound_change : (t : List ℕ) → size_sound t ≡ true → head_sound t ≡ true → number t kind_at 1 ≡ 3 → rest_sound t 0 ≡ sound t
+pub sound_change : (t : List ℕ) → size_sound t ≡ true → head_sound t ≡ true → kind t ≡ change → rest_sound t 0 ≡ sound t
 unfolding target_sound
 sound_change t s h e = rw (sound_parts t, s, h, target_in_row t, e)
 
-pub sound_other : (t : List ℕ) → size_sound t ≡ true → head_sound t ≡ true → (number t kind_at 1 ≡ 3 → ⊥) → rest_sound t 1 ≡ sound t
-sound_other t s h ne =
-    rw (sound_parts t, s, h, copies_in_row t, no_target_lem t (number t kind_at 1) (kind_in_range t h) ne, and-true (copies_valid t))
+pub sound_other : (t : List ℕ) → size_sound t ≡ true → head_sound t ≡ true → (kind t ≡ change → ⊥) → rest_sound t 1 ≡ sound t
+sound_other t s h ne = rw (sound_parts t, s, h, copies_in_row t, no_target_lem t (kind t) ne, and-true (copies_valid t))

@@ -7,10 +7,7 @@ ghost use Rattle.layout.specs.Fields.{round_of};
 ghost use Rattle.layout.specs.Soundness.{is_zero, sound};
 ghost use Rattle.soundness.specs.Scan.{size_sound, head_sound, round_blank, rest_sound};
 
-use layout::{
-    CHANGE, COPIES_AT, COPY_SIZE, HEAD_SIZE, KIND_AT, NO_ROUND, READ, SPARE_AT, TARGET_AT,
-    VALUE_AT, WRITE,
-};
+use layout::{COPIES_AT, COPY_SIZE, HEAD_SIZE, KIND_AT, Kind, SPARE_AT, TARGET_AT, VALUE_AT};
 use sets::{is_within, share_station, united};
 use table::head;
 use table::number::{u32_at, u64_at};
@@ -27,7 +24,7 @@ pub fn is_sound(t: &[u8]) -> bool
     if !head_ok(t) {
         return false;
     }
-    if head::kind(t) == CHANGE {
+    if head::kind(t) == Some(Kind::Change) {
         return rest_ok(t, 0);
     }
     rest_ok(t, 1)
@@ -54,7 +51,7 @@ fn head_ok(t: &[u8]) -> bool
     let off = head::off_set(t);
     let data_puts = head::data_puts(t);
     let config_puts = head::config_puts(t);
-    (head::kind(t) <= CHANGE)
+    (head::kind_byte(t) <= Kind::Change as u8)
         & (head::item(t) < head::items(t))
         & is_within(
             united(united(united(off, head::polled(t)), data_puts), config_puts),
@@ -71,12 +68,12 @@ fn round_ok(t: &[u8]) -> bool
     ensures { result ≡ round_blank t.now (round_of t.now).kind }
 {
     match head::kind(t) {
-        NO_ROUND => blank_words(t, KIND_AT, 1) & blank_words(t, VALUE_AT, 5),
-        READ => (head::data_puts(t) == 0)
+        None => blank_words(t, KIND_AT, 1) & blank_words(t, VALUE_AT, 5),
+        Some(Kind::Read) => (head::data_puts(t) == 0)
             & (head::config_puts(t) == 0)
             & blank_words(t, VALUE_AT, 5),
-        WRITE => (head::config_puts(t) == 0) & blank_words(t, TARGET_AT, 4),
-        _ => head::value(t) == 0,
+        Some(Kind::Write) => (head::config_puts(t) == 0) & blank_words(t, TARGET_AT, 4),
+        Some(Kind::Change) => head::value(t) == 0,
     }
 }
 
@@ -85,11 +82,11 @@ fn blank_words(t: &[u8], at: usize, count: usize) -> bool
     requires { at + 8 * count ≤ length t.now }
     ensures { result ≡ is_zero t.now at (8 * count) }
 {
-    let mut ok = true;
-    for k in 0..count {
-        ok = ok & (u64_at(t, at + 8 * k) == 0);
-    }
-    ok
+    t[at..at + 8 * count]
+        .as_chunks::<8>()
+        .0
+        .iter()
+        .fold(true, |ok, word| ok & (u64_at(word, 0) == 0))
 }
 
 // Whether the round has only what its kind asks for, and the configurations from number `first` on are valid. Number 0 is the target: it

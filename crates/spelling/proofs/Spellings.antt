@@ -10,7 +10,7 @@ use Rattle.basics.specs.Bytes.{AreBytes}
 use Rattle.basics.proofs.Tests.{clash, either}
 use Rattle.quorum.specs.Configurations.{first_read, place_figure, is_place}
 use Rattle.quorum.specs.Promise.{SamePasses}
-use Rattle.quorum.specs.declared.Place.{Place}
+use Rattle.std.specs.Prelude.{Option}
 use Rattle.quorum.proofs.Promise.{promise}
 use Rattle.form.specs.Form.{standard_form}
 use Rattle.form.proofs.Laws.{same_passes_form, spells_itself}
@@ -87,7 +87,7 @@ one_form t (c ∷ calls) (d ∷ others) r =
 
 -- ---- spellings in tables
 -- what is left of a read place is whether there is one, and that is whether the set passes
-any_place_lem : (p : Place) → any_place (place_figure p) ≡ cond (is_place p) 1 0
+any_place_lem : (p : Option ℕ) → any_place (place_figure p) ≡ cond (is_place p) 1 0
 any_place_lem p =
     either (is_place p)
     (λ e. rw (e, ne_eqb (place_figure p) 0 (λ z. clash e ((promise.figure_none p).0 z))))

@@ -1,8 +1,9 @@
--- The table lent from a place on, `&mut t[a..]`: what is written there, said of the whole.
+-- The table lent from a place on, `&mut t[a..]`, and between two places: what is written there, said of the whole.
 use mathlib.Core.Path.{◌≡◌, ◌∙◌}
 use mathlib.Core.List.{List, ◌++◌, append_assoc, append-nil}
 use Prim.Native.Nat.{ℕ, ◌+◌, ◌-◌}
 use native.Mathlib.Nat.{le_of_eq, add_assoc}
+use native.Mathlib.Omega.{arith}
 use lib.ListN.{length, take, drop, length-drop, drop_of_length-le}
 use lib.Seq.{take_all, take-add, drop-drop}
 use borrow.Rule.Slice.PartMut.{mid_of, put_mid}
@@ -22,3 +23,8 @@ over-lent t a o l =
     let e = append_assoc (take a t) (take o (drop a t)) (l ++ drop (a + (o + length l)) t) in
     back t a (over (mid_of a (length t - a) t) o l)
     ∙ rw (lent t a, take-add a o t, drop-drop (o + length l) a t, add_assoc a o (length l), e)
+
+-- a part as long as what is written into it
+pub over-part : (t : List ℕ) (a n : ℕ) (l : List ℕ) → length l ≡ n → put_mid a (a + n - a) t l ≡ over t a l
+unfolding over
+over-part t a n l e = let k : a + n - a ≡ length l = omega arith in rw (k, drop-drop (length l) a t)

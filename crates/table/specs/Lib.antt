@@ -1,1 +1,2 @@
 pub mod ItemCopies
+pub mod Kinds

@@ -1,5 +1,5 @@
 // One copy: its two counters, where it stands, its fields, and the writer that is lent the table from the copy on.
-ghost use Rattle.std.specs.Prelude.{◌≡◌, cond, ◌+◌, ◌≤◌, ◌<◌, length, ltb, eqb};
+ghost use Rattle.std.specs.Prelude.{◌≡◌, ◌+◌, ◌≤◌, ◌<◌, length, eqb};
 ghost use Rattle.layout.specs.Layout.{copy_size, address};
 ghost use Rattle.layout.specs.Fields.{copy_from, last_count};
 ghost use Rattle.layout.specs.Updates.{put_data, put_config};
@@ -10,79 +10,29 @@ use layout::{
 };
 use quorum::CONFIG_SIZE;
 
-// The greater of two numbers.
-fn greater(a: u64, b: u64) -> u64
-    ensures { result ≡ cond (ltb a b) b a }
-{
-    if a < b {
-        return b;
-    }
-    a
-}
+// A counter of a copy. Those of the value and those of the configuration are two types, so that neither is compared with the other.
+#[derive(Clone, Copy, PartialEq, Eq, PartialOrd, Ord)]
+pub struct Counter<const OF_CONFIGURATION: bool>(pub u64);
 
-// How often the value was written. It is compared only with versions.
-#[derive(Clone, Copy)]
-pub struct Version(pub u64);
+// How often the value was written.
+pub type Version = Counter<false>;
 
-impl Version {
-    pub fn is_newer(self, other: Version) -> bool
-        ensures { result ≡ ltb other.0 self.0 }
-    {
-        other.0 < self.0
-    }
+// How often the configuration was changed.
+pub type Generation = Counter<true>;
 
-    // The newer of the two.
-    pub fn or_newer(self, other: Version) -> Version
-        ensures { result.0 ≡ cond (ltb self.0 other.0) other.0 self.0 }
-    {
-        Version(greater(self.0, other.0))
-    }
-
+impl<const OF_CONFIGURATION: bool> Counter<OF_CONFIGURATION> {
     // Whether there is none after it.
     pub fn is_last(self) -> bool
-        ensures { result ≡ eqb self.0 last_count }
+        ensures { result ≡ eqb self.entry.0 last_count }
     {
-        self.0 == 18446744073709551615
+        self.0 == u64::MAX
     }
 
-    pub fn next(self) -> Version
+    pub fn next(self) -> Self
         requires { self.0 < last_count }
-        ensures { result.0 ≡ self.0 + 1 }
+        ensures { result.0 ≡ self.entry.0 + 1 }
     {
-        Version(self.0 + 1)
-    }
-}
-
-// How often the configuration was changed. It is compared only with generations.
-#[derive(Clone, Copy)]
-pub struct Generation(pub u64);
-
-impl Generation {
-    pub fn is_newer(self, other: Generation) -> bool
-        ensures { result ≡ ltb other.0 self.0 }
-    {
-        other.0 < self.0
-    }
-
-    // The newer of the two.
-    pub fn or_newer(self, other: Generation) -> Generation
-        ensures { result.0 ≡ cond (ltb self.0 other.0) other.0 self.0 }
-    {
-        Generation(greater(self.0, other.0))
-    }
-
-    // Whether there is none after it.
-    pub fn is_last(self) -> bool
-        ensures { result ≡ eqb self.0 last_count }
-    {
-        self.0 == 18446744073709551615
-    }
-
-    pub fn next(self) -> Generation
-        requires { self.0 < last_count }
-        ensures { result.0 ≡ self.0 + 1 }
-    {
-        Generation(self.0 + 1)
+        Counter(self.0 + 1)
     }
 }
 
@@ -99,7 +49,7 @@ pub fn version_at(t: &[u8], at: usize) -> Version
     requires { at + copy_size ≤ length t.now }
     ensures { result.0 ≡ (copy_from t.now at).version }
 {
-    Version(u64_at(t, at + COPY_VERSION_AT))
+    Counter(u64_at(t, at + COPY_VERSION_AT))
 }
 
 pub fn value_at(t: &[u8], at: usize) -> u64
@@ -113,7 +63,7 @@ pub fn generation_at(t: &[u8], at: usize) -> Generation
     requires { at + copy_size ≤ length t.now }
     ensures { result.0 ≡ (copy_from t.now at).generation }
 {
-    Generation(u64_at(t, at + COPY_GENERATION_AT))
+    Counter(u64_at(t, at + COPY_GENERATION_AT))
 }
 
 pub fn config_at(t: &[u8], at: usize) -> &[u8]

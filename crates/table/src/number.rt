@@ -13,62 +13,59 @@ pub fn byte_at(t: &[u8], at: usize) -> usize
     t[at] as usize
 }
 
+// The bytes from a place on, as many as the array has.
+pub fn bytes_at<const N: usize>(t: &[u8], at: usize) -> [u8; N]
+    requires { at + N ≤ length t.now }
+    ensures { result ≡ part t.now at N }
+{
+    let mut bytes = [0u8; N];
+    bytes.copy_from_slice(&t[at..at + N]);
+    bytes
+}
+
 // The number in two bytes. This and the next two are each one load of the machine.
 pub fn u16_at(t: &[u8], at: usize) -> u16
     requires { at + 2 ≤ length t.now }
     ensures { result ≡ number t.now at 2 }
 {
-    t[at] as u16 + 256 * (t[at + 1] as u16)
+    u16::from_le_bytes(bytes_at(t, at))
 }
 
 pub fn u32_at(t: &[u8], at: usize) -> u32
     requires { at + 4 ≤ length t.now }
     ensures { result ≡ number t.now at 4 }
 {
-    u16_at(t, at) as u32 + 65536 * (u16_at(t, at + 2) as u32)
+    u32::from_le_bytes(bytes_at(t, at))
 }
 
 pub fn u64_at(t: &[u8], at: usize) -> u64
     requires { at + 8 ≤ length t.now }
     ensures { result ≡ number t.now at 8 }
 {
-    u32_at(t, at) as u64 + 4294967296 * (u32_at(t, at + 4) as u64)
+    u64::from_le_bytes(bytes_at(t, at))
 }
 
-// Writes the bytes of a number, as many as the width says: one store where the width is known.
-fn put_bytes(t: &mut [u8], at: usize, width: usize, x: u64)
-    requires { at + width ≤ length t.old }
-    ensures { t.new ≡ over t.old at (bytes_of width x) }
+// Writes the bytes of an array.
+pub fn put_bytes<const N: usize>(t: &mut [u8], at: usize, bytes: [u8; N])
+    requires { at + N ≤ length t.old }
+    ensures { t.new ≡ over t.old at bytes.entry }
 {
-    let mut rest = x;
-    for k in 0..width {
-        t[at + k] = (rest % 256) as u8;
-        rest = rest / 256;
-    }
+    t[at..at + N].copy_from_slice(&bytes)
 }
 
+// Writes the bytes of a number. This and the next are each one store of the machine.
 pub fn put_u16(t: &mut [u8], at: usize, x: u16)
     requires { at + 2 ≤ length t.old }
     ensures { t.new ≡ over t.old at (bytes_of 2 x) }
 {
-    put_bytes(t, at, 2, x as u64)
+    put_bytes(t, at, x.to_le_bytes())
 }
 
 pub fn put_u64(t: &mut [u8], at: usize, x: u64)
     requires { at + 8 ≤ length t.old }
     ensures { t.new ≡ over t.old at (bytes_of 8 x) }
 {
-    put_bytes(t, at, 8, x)
-}
-
-// Writes zeros, as many as the count says.
-fn put_zeros(t: &mut [u8], at: usize, count: usize)
-    requires { at + count ≤ length t.old }
-    ensures { t.new ≡ over t.old at (replicate count 0) }
-{
-    for k in 0..count {
-        t[at + k] = 0;
-    }
+    put_bytes(t, at, x.to_le_bytes())
 }
 
 // Writes two bytes, and behind them zeros, as many as the count says.
@@ -78,7 +75,7 @@ pub fn put_pair(t: &mut [u8], at: usize, first: u8, second: u8, zeros: usize)
 {
     t[at] = first;
     t[at + 1] = second;
-    put_zeros(t, at + 2, zeros)
+    t[at + 2..at + 2 + zeros].fill(0)
 }
 
 // The 32 bytes of a configuration from a place on.
@@ -86,11 +83,7 @@ pub fn config_bytes_at(t: &[u8], at: usize) -> [u8; CONFIG_SIZE]
     requires { at + config_size ≤ length t.now }
     ensures { result ≡ part t.now at config_size }
 {
-    let mut config = [0u8; CONFIG_SIZE];
-    for k in 0..CONFIG_SIZE {
-        config[k] = t[at + k];
-    }
-    config
+    bytes_at(t, at)
 }
 
 // Writes a configuration.
@@ -98,7 +91,5 @@ pub fn put_config_bytes(t: &mut [u8], at: usize, config: [u8; CONFIG_SIZE])
     requires { at + config_size ≤ length t.old }
     ensures { t.new ≡ over t.old at config }
 {
-    for k in 0..CONFIG_SIZE {
-        t[at + k] = config[k];
-    }
+    put_bytes(t, at, config)
 }

@@ -9,13 +9,16 @@ use native.Mathlib.Nat.{mul-suc, mul-zero, mul-add}
 use lib.ListN.{length, get_or, drop}
 use lib.Seq.{take_all, ext_get_or, get_or-take, get_or-drop}
 use lib.Dec.{eqb, ltb}
-use borrow.Author.Tests.{eqb-true, ltb-true, ltb-false}
+use lib.Pointwise.{pointwise}
+use Rattle.std.specs.Cmp.Lexicographic.{same_text}
+use Rattle.std.proofs.lemmas.Cmp.{nat_list_eq_equiv}
+use borrow.Author.Tests.{eqb-true, eq-eqb, ltb-true, ltb-false}
 use Rattle.basics.specs.Tests.{all_below}
 use Rattle.basics.specs.Bytes.{part}
 use Rattle.quorum.specs.Configurations.{valid, config_size}
 use Rattle.validity.specs.Rows.{valid_at, valid_to, same_again, same_lane, same_block}
 use Rattle.basics.proofs.Parts.{part_length}
-use Rattle.basics.proofs.Tests.{clash, by_cases, and_both, all-below, below_all, either}
+use Rattle.basics.proofs.Tests.{clash, by_cases, same_test, and_both, all-below, below_all, either}
 
 -- parts with the same bytes
 pub same_part : (t : List ℕ) (a b w : ℕ) → a + w ≤ length t → b + w ≤ length t
@@ -24,6 +27,25 @@ same_part t a b w h g e =
     ext_get_or 0 (part t a w) (part t b w) (part_length t a w h ∙ sym (part_length t b w g))
     (λ i l. let q : i < w = rw (part_length t a w h) at l in
     rw (get_or-take w (drop a t) i 0 q, get_or-take w (drop b t) i 0 q, get_or-drop a t i 0, get_or-drop b t i 0) (e i q))
+
+-- the byte at a place of a part
+part_at : (t : List ℕ) (a w i : ℕ) → i < w → get_or (part t a w) i 0 ≡ get_or t (a + i) 0
+part_at t a w i l = get_or-take w (drop a t) i 0 l ∙ get_or-drop a t i 0
+
+-- configurations compared as lists
+pub parts_compared : (t : List ℕ) (at stride : ℕ) → at + stride + config_size ≤ length t
+    → pointwise eqb (part t (at + stride) config_size) (part t at config_size) ≡ same_again t at stride
+unfolding same_again
+parts_compared t at stride h =
+    let next = part t (at + stride) config_size in
+    let one = part t at config_size in
+    let same : ℕ → Bool = λ i. eqb (get_or t (at + stride + i) 0) (get_or t (at + i) 0) in
+    same_test (pointwise eqb next one) (all_below same config_size)
+    (λ e. let p : next ≡ one = same_text next one (sym e) in
+    below_all same config_size (λ i l. eq-eqb _ _ (
+    sym (part_at t (at + stride) config_size i l) ∙ ap (λ x. get_or x i 0) p ∙ part_at t at config_size i l)))
+    (λ e. rw (same_part t (at + stride) at config_size h (omega arith) (λ k l. eqb-true _ _ (all-below same config_size e k l)))
+    (nat_list_eq_equiv.refl one))
 
 -- a configuration with the bytes of a valid one is valid
 pub again_valid : (n : ℕ) (t : List ℕ) (at stride : ℕ) → at + stride + config_size ≤ length t

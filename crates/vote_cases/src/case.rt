@@ -1,83 +1,85 @@
-// A case as far as it is read. Its votes stand in a list beside it.
+// A case of votes, as its line gives it.
+ghost use Rattle.std.specs.Prelude.{length, IfOk, Ok, OnOk};
+ghost use Rattle.std.specs.List.{AllWithin};
+ghost use Rattle.std.specs.Char.{IsAsciiDigit};
 
-// 2^64 - 1.
-const LARGEST: u64 = 18446744073709551615;
+use arrayvec::ArrayVec;
+use std::num::ParseIntError;
+use std::str::{FromStr, Utf8Error};
 
-// Whether the bar of the line is read, and whether every word fits so far; the number that is read, if there is one; how many words are
-// before it, and the first three of them.
-#[derive(Clone, Copy)]
+// The longest output of a case.
+const LONGEST: usize = 40;
+
+// The thresholds, the length of the output and the votes.
+#[derive(Drop)]
 pub struct Case {
-    pub begun: bool,
-    pub fits: bool,
-    pub inside: bool,
-    pub number: u64,
-    pub words: usize,
-    pub numbers: [u64; 3],
+    pub read: u64,
+    pub write: u64,
+    pub length: usize,
+    pub votes: ArrayVec<u8, 20>,
 }
 
-impl Case {
-    // No word is read; only the bar, or not even that.
-    pub fn new(begun: bool) -> Case {
-        Case {
-            begun: begun,
-            fits: true,
-            inside: false,
-            number: 0,
-            words: 0,
-            numbers: [0u64; 3],
-        }
-    }
+// Why a case cannot be run.
+#[derive(Debug, Drop)]
+pub enum Unfit {
+    NoNumber,
+    TooFewWords,
+    TooManyVotes,
+    OutputTooLong,
+}
 
-    // The case with a word that does not fit.
-    fn broken(mut self) -> Case {
-        self.fits = false;
-        self
+impl From<ParseIntError> for Unfit {
+    fn from(_: ParseIntError) -> Unfit {
+        Unfit::NoNumber
     }
+}
 
-    // The case with one more digit of its number.
-    fn with_digit(mut self, digit: u64) -> Case {
-        let number = self.number;
-        self.inside = true;
-        if number <= (LARGEST - digit) / 10 {
-            self.number = number * 10 + digit;
-            return self;
-        }
-        self.broken()
+impl From<Utf8Error> for Unfit {
+    fn from(_: Utf8Error) -> Unfit {
+        Unfit::NoNumber
     }
+}
 
-    // The case with its number as a word: a threshold, the length or a vote.
-    fn with_word(mut self, votes: &mut [u8]) -> Case {
-        let at = self.words;
-        let number = self.number;
-        self.inside = false;
-        self.number = 0;
-        if at < 3 {
-            self.numbers[at] = number;
-            self.words = at + 1;
-            return self;
-        }
-        if at - 3 < votes.len() && number < 256 {
-            votes[at - 3] = number as u8;
-            self.words = at + 1;
-            return self;
-        }
-        self.broken()
+// A number in decimal digits, with no sign.
+fn number<N: FromStr<Err = ParseIntError>>(word: &str) -> Result<N, Unfit>
+    ensures digits { OnOk result (AllWithin IsAsciiDigit word.now 0 (length word.now)) }
+    ensures value { IfOk result (λ n. N.from_str_gives word.now (Ok n)) }
+{
+    if !word.bytes().all(|b| b.is_ascii_digit()) {
+        return Err(Unfit::NoNumber);
     }
+    Ok(word.parse::<N>()?)
+}
 
-    // The case after a space or the line's end.
-    pub fn after_word(self, votes: &mut [u8]) -> Case {
-        if self.inside {
-            return self.with_word(votes);
+impl FromStr for Case {
+    type Err = Unfit;
+
+    fn from_str(text: &str) -> Result<Case, Unfit> {
+        let mut words = text.split(' ').filter(|word| !word.is_empty());
+        let read = number(words.next().ok_or(Unfit::TooFewWords)?)?;
+        let write = number(words.next().ok_or(Unfit::TooFewWords)?)?;
+        let length = number(words.next().ok_or(Unfit::TooFewWords)?)?;
+        if length > LONGEST {
+            return Err(Unfit::OutputTooLong);
         }
-        self
+        let mut votes = ArrayVec::new();
+        for word in words {
+            let vote = number(word)?;
+            votes.try_push(vote).map_err(|_| Unfit::TooManyVotes)?;
+        }
+        Ok(Case {
+            read,
+            write,
+            length,
+            votes,
+        })
     }
+}
 
-    // The case with one byte more.
-    pub fn after(self, votes: &mut [u8], b: u8) -> Case {
-        match b {
-            b' ' => self.after_word(votes),
-            b'0'..=b'9' => self.with_digit((b - b'0') as u64),
-            _ => self.broken(),
-        }
+impl TryFrom<&[u8]> for Case {
+    type Error = Unfit;
+
+    fn try_from(text: &[u8]) -> Result<Case, Unfit> {
+        str::from_utf8(text)?.parse::<Case>()
     }
 }

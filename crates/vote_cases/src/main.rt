@@ -7,19 +7,17 @@
 //
 // the thresholds, the length of the output, at most 40, and at most 20 votes. The output's bytes are AA before the call. A case prints its
 // name, the reply, a number and three figures, and the output's bytes in pairs: each pair is a place, the least significant byte first. A
-// case that cannot be run, with a word that is no number of 64 bits, a vote above 255 or too many or too few words, prints 99.
+// case that cannot be run, with a word that is no number of 64 bits, a vote above 255, a longer output or too many or too few words,
+// prints 99.
 #![tactic(auto)]
 
 mod case;
 mod script;
-mod show;
 
 use std::io;
-use whole_input::read_full;
+use whole_input::{LIMIT, read_whole};
 
 fn main(rt: HostRuntime) -> io::Result<()> {
-    let mut input = [0u8; 65536];
-    let n = read_full(&mut rt.stdin(), &mut input)?;
-    let mut votes = [0u8; 20];
-    script::run(&mut rt.stdout(), &input[..n], &mut votes)
+    let input = read_whole(rt.alloc(), &mut rt.stdin(), LIMIT)?;
+    script::run(rt.alloc(), &mut rt.stdout(), &input)
 }

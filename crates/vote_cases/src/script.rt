@@ -1,69 +1,41 @@
-// The script, byte by byte.
+// The script, line by line.
 use crate::case::Case;
-use crate::show;
+use case_text::{Pairs, Shown, split_once};
 use ospreyscreen::ospreyscreen_votes;
+use std::alloc::Global;
 use std::io;
 use std::io::Write;
 
+// The number of a case that cannot be run.
+const UNFIT: u64 = 99;
+
 // Makes the call, and prints its reply and the output.
-fn call<W: Write>(
-    to: &mut W,
-    votes: &[u8],
-    read: u64,
-    write: u64,
-    out: &mut [u8],
-) -> io::Result<()> {
-    show::reply(to, ospreyscreen_votes(votes, read, write, out))?;
-    show::bytes(to, out)
+fn call<W: Write>(alloc: Global, to: &mut W, case: &Case) -> io::Result<()> {
+    let mut out = vec![in alloc; 0xAA; case.length]?;
+    let reply = ospreyscreen_votes(case.votes.as_slice(), case.read, case.write, &mut out);
+    write!(to, "{}{}", Shown(reply), Pairs(&out))
 }
 
-// Runs a case that is read.
-fn perform<W: Write>(to: &mut W, case: Case, votes: &[u8]) -> io::Result<()> {
-    let words = case.words;
-    let numbers = case.numbers;
-    let length = numbers[2] as usize;
-    let mut out = [0xAAu8; 40];
-    if case.fits && 3 <= words && words - 3 <= votes.len() && length <= 40 {
-        let n = words - 3;
-        call(to, &votes[..n], numbers[0], numbers[1], &mut out[..length])
-    } else {
-        show::unfit(to)
+// Runs a line's case, behind its name.
+fn perform<W: Write>(alloc: Global, to: &mut W, text: &[u8]) -> io::Result<()> {
+    match Case::try_from(text) {
+        Ok(case) => call(alloc, to, &case)?,
+        Err(_) => write!(to, "{UNFIT}")?,
     }
+    to.write_all(b"\n")
 }
 
-// Runs a case at its line's end.
-fn close<W: Write>(to: &mut W, case: Case, votes: &mut [u8]) -> io::Result<Case> {
-    perform(to, case.after_word(votes), votes)?;
-    to.write_all(b"\n")?;
-    Ok(Case::new(false))
-}
-
-// Prints a byte before a bar; the bar begins a case.
-fn text<W: Write>(to: &mut W, b: u8) -> io::Result<Case> {
-    let printed = [b];
-    if b == b'|' {
-        return Ok(Case::new(true));
-    }
-    to.write_all(&printed)?;
-    Ok(Case::new(false))
-}
-
-// The case after a byte.
-fn step<W: Write>(to: &mut W, case: Case, votes: &mut [u8], b: u8) -> io::Result<Case> {
-    if !case.begun {
-        return text(to, b);
-    }
-    if b == b'\n' {
-        return close(to, case, votes);
-    }
-    Ok(case.after(votes, b))
-}
-
-// Runs the script, with a list for the votes of each case.
-pub fn run<W: Write>(to: &mut W, script: &[u8], votes: &mut [u8]) -> io::Result<()> {
-    let mut case = Case::new(false);
-    for i in 0..script.len() {
-        case = step(to, case, votes, script[i])?;
+// Runs the script. A heading is printed as it is. Of a case the name is printed, and it is run if its line has an end.
+pub fn run<W: Write>(alloc: Global, to: &mut W, script: &[u8]) -> io::Result<()> {
+    for line in script.split_inclusive(|b| *b == b'\n') {
+        let Some((name, case)) = split_once(line, b'|') else {
+            to.write_all(line)?;
+            continue;
+        };
+        to.write_all(name)?;
+        if let Some(case) = case.strip_suffix(b"\n") {
+            perform(alloc, to, case)?;
+        }
     }
     Ok(())
 }

@@ -99,12 +99,10 @@ module _ (votes : List ℕ) (read write : ℕ) (out : List ℕ) where
       write-many h = too_many_lem (or_right (too_many votes read) _ (lt-ltb 8 _ h))
 
       -- both sides were found whole, and are written
-      pub written : (reads writes : List ℕ) (r w : ℕ) → Found votes read reads r → r ≤ 8 → Found votes write writes w → w ≤ 8
+      pub written : {reads writes : List ℕ} → Found votes read reads → Found votes write writes
           → Answers 0 (over (over out 0 (side_bytes reads)) 16 (side_bytes writes))
       unfolding votes_number votes_refusals first too_many configuration_of
-      written reads writes r w f l g m =
-          let few_reads : length (smallest_sets votes read) ≤ 8 = omega (arith, f.all l) in
-          let few_writes : length (smallest_sets votes write) ≤ 8 = omega (arith, g.all m) in
+      written {reads = reads} {writes = writes} r w =
           answers 0 _
-          (rw (eq-eqb (length out) config_size long, passed, le-ltb 8 _ few_reads, le-ltb 8 _ few_writes))
-          (written_config out reads writes _ _ long (record { each = f.each l }) (record { each = g.each m }))
+          (rw (eq-eqb (length out) config_size long, passed, le-ltb 8 _ r.few, le-ltb 8 _ w.few))
+          (written_config out reads writes _ _ long (record { each = r.each }) (record { each = w.each }))

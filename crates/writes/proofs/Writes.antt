@@ -4,9 +4,9 @@ use mathlib.Core.Bool.{Bool, true, false, cond, ◌||◌}
 use mathlib.Core.List.{List, ◌∷◌, ◌++◌, append_assoc, append-nil}
 use Prim.Native.Nat.{ℕ, zero, suc, ◌+◌, ◌-◌, ◌*◌, ◌≤◌}
 use native.Mathlib.Omega.{arith}
-use native.Mathlib.Nat.{add-zero, zero-add, suc-add, mul-le-mul, not-suc-le-zero}
-use lib.ListN.{length, replicate, length-append}
-use lib.Seq.{take_all}
+use native.Mathlib.Nat.{le_of_eq, add-zero, zero-add, suc-add, mul-le-mul, not-suc-le-zero}
+use lib.ListN.{length, take, drop, replicate, length-append}
+use lib.Seq.{take_all, take-append-le}
 use Rattle.quorum.specs.Sets.{member, unite, full}
 use Rattle.basics.specs.Bytes.{part, bytes_of, over}
 use Rattle.quorum.proofs.Promise.{promise}
@@ -74,8 +74,13 @@ over_first t a l r fits =
     over-append (over t a l) a l r long ∙ rw (over_again t a l q) (sym (over-append t a l r fits))
 
 -- bytes that went through a block are what they were
-pub through_block : (t block : List ℕ) (a k : ℕ) → a + k ≤ length t → k ≤ length block → part (over block 0 (part t a k)) 0 k ≡ part t a k
-through_block t block a k h q = let e = part_length t a k h in part_whole block 0 (part t a k) (omega arith) k e
+pub through_block : (t block : List ℕ) (a k : ℕ) {x y : List ℕ} → a + k ≤ length t → x ≡ take (a + k - a) (drop a t) → y ≡ take k (x ++ drop k block)
+    → y ≡ part t a k
+through_block t block a k {x} h p q =
+    let e : a + k - a ≡ k = omega arith in
+    let same = rw e at p in
+    let long : length x ≡ k = rw same (part_length t a k h) in
+    q ∙ take-append-le k x (drop k block) (le_of_eq (sym long)) ∙ take_all k x (le_of_eq long) ∙ same
 
 -- copies, one after the other
 pub lay_start : (t : List ℕ) (a : ℕ) → a + copy_size ≤ length t → t ≡ over t a (repeated 1 (part t a copy_size))

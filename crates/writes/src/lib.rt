@@ -1,7 +1,7 @@
 // What commit and lay write.
 #![tactic(auto)]
 
-ghost use Rattle.std.specs.Prelude.{◌≡◌, cond, ◌+◌, ◌*◌, ◌≤◌, min, length};
+ghost use Rattle.std.specs.Prelude.{◌≡◌, cond, ◌+◌, ◌*◌, ◌≤◌, length};
 ghost use Rattle.basics.specs.Bytes.{part, over};
 ghost use Rattle.quorum.specs.Configurations.{config_size};
 ghost use Rattle.layout.specs.Layout.{head_size, copies_at, copy_size, table_length};
@@ -10,11 +10,12 @@ ghost use Rattle.table.specs.ItemCopies.{InTable};
 ghost use Rattle.layout.specs.Updates.{put_data, put_config, copy_bytes, repeated, laid_head, laid, put_copies, closed};
 ghost use Rattle.rounds.specs.Round.{as_round};
 
-use layout::{COPIES_AT, COPY_SIZE, HEAD_SIZE, NO_ROUND, OFF_AT, STATIONS_AT};
+use layout::{COPIES_AT, COPY_SIZE, HEAD_SIZE, OFF_AT, STATIONS_AT};
 use quorum::CONFIG_SIZE;
 use rounds::round::Round;
-use table::copy::{Generation, Version, address, put_config, put_data};
-use table::head::{set_off, set_round};
+use sets::Stations;
+use table::copy::{Counter, Generation, Version, address, put_config, put_data};
+use table::head::{close_round, set_off};
 use table::number::{config_bytes_at, put_pair};
 
 // Version and value into the copy at a place, if its station has a data put.
@@ -57,9 +58,7 @@ fn put_each(
 {
     let i = round.item;
     let target = round.target;
-    let mut rest = sets::united(round.data_puts, round.config_puts);
-    while rest != 0 {
-        let s = sets::lowest(rest);
+    for s in Stations(sets::united(round.data_puts, round.config_puts)) {
         if n <= s {
             return;
         }
@@ -72,11 +71,11 @@ fn put_each(
             generation,
             target,
         );
-        rest = sets::without_lowest(rest);
     }
 }
 
 // The same, and then the round closes.
+#[tactic(auto, using(crate::proofs::Writes::head_fits))]
 pub fn finish(
     t: &mut [u8],
     n: usize,
@@ -89,21 +88,11 @@ pub fn finish(
     ensures { t.new ≡ closed (put_copies t.old n (as_round round) (new_copy version.0 value generation.0 round.target) n) }
 {
     put_each(t, n, round, value, version, generation);
-    set_round(t, NO_ROUND, 0, 0, [0u8; CONFIG_SIZE])
+    close_round(t)
 }
 
 // The most bytes that are copied at once: half of the copies of the largest table.
 const BLOCK_SIZE: usize = 256 * COPY_SIZE;
-
-// Writes bytes of another list, as many as the count says.
-fn put_part(to: &mut [u8], at: usize, from: &[u8], start: usize, count: usize)
-    requires { (at + count ≤ length to.old) × (start + count ≤ length from.now) }
-    ensures { to.new ≡ over to.old at (part from.now start count) }
-{
-    for k in 0..count {
-        to[at + k] = from[start + k];
-    }
-}
 
 // Writes the first bytes behind the head once more, as many as the count says. The compiler leaves the block out and makes
 // this one move of memory.
@@ -112,15 +101,8 @@ fn copy_again(t: &mut [u8], to: usize, count: usize)
     ensures { t.new ≡ over t.old to (part t.old copies_at count) }
 {
     let mut block = [0u8; BLOCK_SIZE];
-    put_part(&mut block, 0, t, COPIES_AT, count);
-    put_part(t, to, &block, 0, count)
-}
-
-// The smaller of two numbers.
-fn least(a: usize, b: usize) -> usize
-    ensures { result ≡ min a b }
-{
-    if a < b { a } else { b }
+    block[..count].copy_from_slice(&t[COPIES_AT..COPIES_AT + count]);
+    t[to..to + count].copy_from_slice(&block[..count])
 }
 
 // Writes the first copy.
@@ -128,8 +110,8 @@ fn lay_first(t: &mut [u8], value: u64, config: &[u8])
     requires { (copies_at + copy_size ≤ length t.old) × (length config.now ≡ config_size) }
     ensures { t.new ≡ over t.old copies_at (copy_bytes 0 value 0 config.now) }
 {
-    put_data(t, COPIES_AT, Version(0), value);
-    put_config(t, COPIES_AT, Generation(0), config_bytes_at(config, 0))
+    put_data(t, COPIES_AT, Counter(0), value);
+    put_config(t, COPIES_AT, Counter(0), config_bytes_at(config, 0))
 }
 
 // Makes all copies like the first. Each turn writes the copies that are there once more behind them, and so doubles them.
@@ -139,13 +121,14 @@ fn lay_rest(t: &mut [u8], copies: usize)
 {
     let mut k: usize = 1;
     while k < copies {
-        let more = least(k, copies - k);
+        let more = k.min(copies - k);
         copy_again(t, COPIES_AT + COPY_SIZE * k, COPY_SIZE * more);
         k += more;
     }
 }
 
 // Writes the head: no round, and every station off the bus.
+#[tactic(auto, using(crate::proofs::Writes::head_off))]
 fn lay_head(t: &mut [u8], n: u64, m: u64)
     requires { (n ≤ 16) × (m ≤ 32) × (head_size ≤ length t.old) }
     ensures { t.new ≡ over t.old 0 (laid_head n m) }

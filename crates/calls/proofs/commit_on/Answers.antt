@@ -1,42 +1,27 @@
-use mathlib.Core.Path.{refl, sym, ap, ◌∙◌}
+use mathlib.Core.Path.{refl, ap}
 use Rattle.layout.specs.View.{view}
-use Rattle.layout.proofs.Soundness.{sound_head, is_sound_lem}
+use Rattle.layout.proofs.Soundness.{is_sound_lem}
 use Rattle.rounds.proofs.Hearing.{items_in_table}
-use Rattle.rules.specs.Calls.{abandon}
-use Rattle.rules.specs.Needs.{needs}
-use Rattle.openings.proofs.Replies.{shown}
-use Rattle.closing.proofs.Answers.{idle-reply}
-use Rattle.calls.proofs.Committing.{commit_refused, commit_finished}
+use Rattle.rules.specs.Calls.{commit}
+use Rattle.rules.proofs.Outcomes.{refused_figures}
+use Rattle.std.proofs.lemmas.Result.{err_from_is_err_and}
+use Rattle.calls.proofs.Committing.{commit_asks, commit_refused, commit_finished}
 use Rattle.calls.proofs.commit_on.Goals as goal
 
-pub returns-then-number-ne-DONE : goal.returns-then-number-ne-DONE
-returns-then-number-ne-DONE c =
-    let refused = c.if-number-ne-DONE.true in
-    let told = c.plain.ensures in
-    commit_refused _ (told ∙ idle-reply _ c.requires c.idle_number-number.ensures refused) (λ z. refused (sym (ap (λ r. r.number) told) ∙ z))
+pub returns-in_err-kind : goal.returns-in_err-kind
+returns-in_err-kind c =
+    refused_figures _ c.requires commit refl c.from_residual.result _ c.from_residual.ensures.1 (commit_asks _ _ c.in_err-kind.ensures.value)
 
-pub commit_reply-outcome-requires : goal.commit_reply-outcome-requires
-unfolding needs
-commit_reply-outcome-requires c =
-    let s = c.requires in (s, (shown _ s abandon refl c.idle_number-number.ensures c.if-number-ne-DONE.false).1.0)
-
-pub returns-then-outcome-ne-DONE : goal.returns-then-outcome-ne-DONE
-returns-then-outcome-ne-DONE c =
-    commit_refused _ c.commit_reply-outcome.ensures c.if-outcome-ne-DONE.true
-
-pub stations-requires : goal.stations-requires
-stations-requires c = sound_head _ c.requires
-
-pub of-requires : goal.of-requires
-of-requires c = sound_head _ c.requires
+pub returns-in_err-figures : goal.returns-in_err-figures
+returns-in_err-figures c =
+    let p = err_from_is_err_and c.from_residual-in_err-figures.result c.from_residual-in_err-figures.ensures.1 in
+    rw (p.1, p.2) (commit_refused _ _ c.in_err-figures.ensures)
 
 pub finish-requires : goal.finish-requires
 unfolding view
 finish-requires c =
     let s = c.requires in
-    rw (c.stations.ensures, c.«of».ensures) (items_in_table _ s _ (is_sound_lem _ s).item)
+    rw (c.stations.ensures, ap (λ r. r.item) c.«of».ensures) (items_in_table _ s _ (is_sound_lem _ s).item)
 
 pub returns : goal.returns
-returns c =
-    commit_finished _ c.commit_reply-outcome.ensures c.if-outcome-ne-DONE.false c.stations.ensures c.«of».ensures
-    c.finish.ensures
+returns c = commit_finished _ c.in_ok-figures.ensures c.stations.ensures c.«of».ensures c.finish.ensures

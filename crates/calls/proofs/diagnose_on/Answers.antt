@@ -1,26 +1,15 @@
-use mathlib.Core.Path.{◌≡◌, refl, ◌∙◌}
-use Rattle.layout.specs.View.{view}
+use mathlib.Core.Path.{refl, ◌∙◌}
 use Rattle.rules.specs.Calls.{diagnose}
-use Rattle.rules.specs.Rules.{first, tests}
-use Rattle.rules.specs.Needs.{needs}
-use Rattle.openings.proofs.Replies.{diagnose_asks, refused, shown}
+use Rattle.rules.specs.Figures.{figures_of}
+use Rattle.rules.proofs.Outcomes.{refused_figures, finished}
+use Rattle.calls.proofs.Committing.{diagnose_asks}
 use Rattle.calls.proofs.diagnose_on.Goals as goal
-use Rattle.calls.proofs.diagnose_on.Goals.{After-idle_number-number}
 
--- the number asked for is diagnose's own
-own_number : (c : After-idle_number-number) → c.idle_number-number.result ≡ first (tests (view c.args.t.now) diagnose)
-own_number c = c.idle_number-number.ensures ∙ diagnose_asks _
-
-pub returns-then-number-ne-DONE : goal.returns-then-number-ne-DONE
-returns-then-number-ne-DONE c =
-    let at = goal.at.returns-then-number-ne-DONE c in
-    (refused _ c.requires diagnose refl (own_number at.After-idle_number-number) c.if-number-ne-DONE.true c.plain.ensures).value
-
-pub diagnose_reply-requires : goal.diagnose_reply-requires
-unfolding needs
-diagnose_reply-requires c =
-    let at = goal.at.diagnose_reply-requires c in
-    let s = c.requires in (s, (shown _ s diagnose refl (own_number at.After-idle_number-number) c.if-number-ne-DONE.false).1.0)
+pub returns-in_err-kind : goal.returns-in_err-kind
+returns-in_err-kind c =
+    let asked = c.in_err-kind.ensures.value ∙ diagnose_asks _ in
+    (refused_figures _ c.args.table.is_sound diagnose refl c.from_residual.result _ c.from_residual.ensures.1 asked).value
 
 pub returns : goal.returns
-returns c = c.diagnose_reply.ensures
+unfolding figures_of
+returns c = (finished _ c.args.table.is_sound diagnose refl (c.in_ok-kind.ensures.value ∙ diagnose_asks _) c.diagnosed.ensures refl).value

@@ -1,64 +1,47 @@
-use mathlib.Core.Path.{refl, ap, ◌∙◌}
-use borrow.Author.Tests.{eq-eqb, ne_eqb}
+use mathlib.Core.Path.{◌≡◌, refl, sym, ap, ◌∙◌}
+use mathlib.Core.Bool.{true, false}
+use Rattle.layout.specs.Rounds.{with_link}
 use Rattle.layout.specs.View.{view}
-use Rattle.layout.proofs.Soundness.{sound_head}
-use Rattle.rules.specs.Calls.{link}
+use Rattle.rules.specs.Calls.{link, is_off}
 use Rattle.rules.specs.Figures.{figures_of}
 use Rattle.rules.specs.After.{done}
-use Rattle.openings.proofs.Replies.{refused, plain_finished}
+use Rattle.rules.proofs.Outcomes.{refused_plain, plain_finished}
 use Rattle.calls.proofs.link_on.Goals as goal
+use Rattle.calls.proofs.link_on.Goals.{In-Off, In-On}
 
-pub returns-then-number-ne-DONE : goal.returns-then-number-ne-DONE
-returns-then-number-ne-DONE c =
-    let s = c.requires in
-    refused _ s (link _ _) refl c.link_number-number.ensures c.if-number-ne-DONE.true c.plain.ensures
+pub returns-in_err-listed : goal.returns-in_err-listed
+returns-in_err-listed c =
+    refused_plain _ c.requires (link _ _) refl c.from_residual.result _ c.from_residual.ensures.1 c.in_err-listed.ensures.value
 
-pub of-round-requires : goal.of-round-requires
-of-round-requires c = sound_head _ c.requires
+goes_off : (c : In-Off) → is_off c.args.state ≡ true
+goes_off c = ap is_off (sym (rw c.in-Off.is at c.in_ok-listed.ensures.link))
 
-pub off_set-off-requires : goal.off_set-off-requires
-off_set-off-requires c = sound_head _ c.requires
+comes_on : (c : In-On) → is_off c.args.state ≡ false
+comes_on c = ap is_off (sym (rw c.in-On.is at c.in_ok-listed.ensures.link))
 
-pub set_off-requires : goal.set_off-requires
-set_off-requires c =
-    sound_head _ c.requires
-
-pub set_puts-requires : goal.set_puts-requires
-set_puts-requires c =
-    rw c.set_off.auto.t (sound_head _ c.requires)
-
-pub returns-then-state-eq-OFF : goal.returns-then-state-eq-OFF
+pub returns-in-Off : goal.returns-in-Off
 unfolding done figures_of view
-returns-then-state-eq-OFF c =
-    let s = c.requires in
-    plain_finished _ s (link _ _) refl c.link_number-number.ensures refl c.if-number-ne-DONE.false c.plain-then-state-eq-OFF.ensures
+returns-in-Off c =
+    let left = c.drop-left.ensures ∙ ap (λ r. with_link r c.args.station true) c.of-round.ensures in
+    plain_finished _ c.requires (link _ _) refl c.in_ok-listed.ensures.value refl
     (c.set_puts.ensures ∙ rw (
       c.set_off.ensures,
       c.with_station.ensures,
-      ap (λ r. r.data_puts) c.drop-left.ensures,
-      ap (λ r. r.config_puts) c.drop-left.ensures,
-      c.of-round.ensures,
+      ap (λ r. r.data_puts) left,
+      ap (λ r. r.config_puts) left,
       c.off_set-off.ensures,
-      eq-eqb _ _ c.if-state-eq-OFF.true,
+      goes_off (goal.at.returns-in-Off c).In-Off,
     ))
 
-pub set_off-requires-2 : goal.set_off-requires-2
-set_off-requires-2 c =
-    sound_head _ c.requires
-
-pub set_puts-requires-2 : goal.set_puts-requires-2
-set_puts-requires-2 c =
-    rw c.set_off-2.auto.t (sound_head _ c.requires)
-
-pub returns : goal.returns
+pub returns-in-On : goal.returns-in-On
 unfolding done figures_of view
-returns c =
-    let s = c.requires in
-    plain_finished _ s (link _ _) refl c.link_number-number.ensures refl c.if-number-ne-DONE.false c.plain-2.ensures
-    (c.set_puts-2.ensures ∙ rw (
-      c.set_off-2.ensures,
+returns-in-On c =
+    plain_finished _ c.requires (link _ _) refl c.in_ok-listed.ensures.value refl
+    (c.set_puts-in-On.ensures ∙ rw (
+      c.set_off-in-On.ensures,
       c.without_station.ensures,
-      c.of-round.ensures,
+      ap (λ r. r.data_puts) c.of-round.ensures,
+      ap (λ r. r.config_puts) c.of-round.ensures,
       c.off_set-off.ensures,
-      ne_eqb _ _ c.if-state-eq-OFF.false,
+      comes_on (goal.at.returns-in-On c).In-On,
     ))

@@ -1,29 +1,28 @@
-use mathlib.Core.Path.{refl, ap, ◌∙◌}
+use mathlib.Core.Path.{◌≡◌, refl, ap, ◌∙◌}
+use Prim.Native.Nat.{ℕ}
 use Rattle.layout.specs.Rounds.{with_put}
 use Rattle.layout.specs.View.{view}
-use Rattle.layout.proofs.Soundness.{sound_head}
-use Rattle.rounds.specs.Round.{as_round}
+use Rattle.layout.specs.declared.Sort.{Sort}
+use Rattle.layout.specs.declared.Sort.TheVariants.{Data, Configuration}
+use Rattle.rounds.specs.Round.{is_data as is_data_put}
 use Rattle.rules.specs.Calls.{put, is_data}
 use Rattle.rules.specs.Figures.{figures_of}
 use Rattle.rules.specs.After.{done, puts_of}
-use Rattle.openings.proofs.Replies.{refused, plain_finished}
+use Rattle.rules.proofs.Outcomes.{refused_plain, plain_finished}
+use Rattle.numbers.specs.Tests.{sort_number}
 use Rattle.calls.proofs.put_on.Goals as goal
 
-pub returns-then-number-ne-DONE : goal.returns-then-number-ne-DONE
-returns-then-number-ne-DONE c =
-    let s = c.requires in
-    refused _ s (put _ _) refl c.put_number-number.ensures c.if-number-ne-DONE.true c.plain.ensures
+data_put : (sort : Sort) {x : ℕ} → sort_number sort ≡ x → is_data_put sort ≡ is_data x
+data_put Data e = ap is_data e
+data_put Configuration e = ap is_data e
 
-pub of-requires : goal.of-requires
-of-requires c = sound_head _ c.requires
-
-pub set_puts-requires : goal.set_puts-requires
-set_puts-requires c =
-    sound_head _ c.requires
+pub returns-in_err-listed : goal.returns-in_err-listed
+returns-in_err-listed c =
+    refused_plain _ c.requires (put _ _) refl c.from_residual.result _ c.from_residual.ensures.1 c.in_err-listed.ensures.value
 
 pub returns : goal.returns
 unfolding done figures_of view
 returns c =
-    let round = c.put-round.ensures ∙ ap (λ r. with_put (as_round r) c.args.station (is_data c.args.sort)) c.«of».ensures in
-    plain_finished _ c.requires (put _ _) refl c.put_number-number.ensures refl c.if-number-ne-DONE.false c.plain-2.ensures
-    (c.set_puts.ensures ∙ ap (puts_of _) round)
+    let sort = data_put c.in_ok-listed.listed c.in_ok-listed.ensures.sort in
+    let round = c.put-round.ensures ∙ (λ j. with_put (c.«of».ensures j) c.args.station (sort j)) in
+    plain_finished _ c.requires (put _ _) refl c.in_ok-listed.ensures.value refl (c.set_puts.ensures ∙ ap (puts_of _) round)

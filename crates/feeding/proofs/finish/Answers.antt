@@ -1,5 +1,4 @@
 use native.Mathlib.Omega.{arith}
-use lib.ListN.{length-take}
 use Rattle.feeding.proofs.Taking.{ends_none, ends_line}
 use Rattle.feeding.proofs.finish.Goals as goal
 
@@ -7,11 +6,6 @@ pub returns-then-len-eq0 : goal.returns-then-len-eq0
 returns-then-len-eq0 c =
     let a = c.args in
     ends_none a.table.now a.line.now a.out.now a.s c.requires.0 c.if-len-eq0.true
-
-pub slice_bounds-answer_line-end : goal.slice_bounds-answer_line-end
-slice_bounds-answer_line-end c =
-    let fits = c.requires.0 in
-    simp length-take (omega (arith, fits.line_length, fits.line_fits))
 
 pub returns : goal.returns
 returns c =

@@ -45,11 +45,6 @@ slice_bounds-keep-count c =
     let a = c.args in
     omega (arith, end_forward a.piece.now a.s.at a.end c.requires.is_line_end.0, c.requires.is_line_end.1)
 
-pub slice_bounds-answer_line-end-3 : goal.slice_bounds-answer_line-end-3
-slice_bounds-answer_line-end-3 c =
-    let kept = c.keep-len in
-    simp length-take (omega (arith, kept.ensures.upper_bound, kept.auto.line, c.requires.fits.0.line_length))
-
 pub returns : goal.returns
 returns c = let x = c.answer_line-2 in
     let k = c.keep-len in

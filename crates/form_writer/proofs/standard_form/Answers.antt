@@ -3,6 +3,8 @@ use native.Mathlib.Omega.{arith}
 use borrow.Author.Tests.{not-true, not-false}
 use Rattle.form_writer.proofs.Answers.{not_listed, false_configuration, formed}
 use Rattle.form_writer.proofs.standard_form.Goals as goal
+use Rattle.form_writer.proofs.standard_form.Goals.{then-n-eq0-via-then-n-eq0, then-n-eq0-via-else-n-eq0+then-n-gt16}
+use Rattle.form_writer.proofs.standard_form.Goals.{then-n-eq0-via-else-n-eq0+else-n-gt16+then-out-ne-CONFIG_SIZE}
 
 pub returns : goal.returns
 returns c = let some = c.if-n-eq0.false in
@@ -15,15 +17,12 @@ returns c = let some = c.if-n-eq0.false in
 
 pub returns-then-n-eq0 : goal.returns-then-n-eq0
 returns-then-n-eq0 c =
-    not_listed _ _ _ (λ h. omega (arith, h.0, c.if-n-eq0.true))
-
-pub returns-then-n-gt16 : goal.returns-then-n-gt16
-returns-then-n-gt16 c =
-    not_listed _ _ _ (λ h. omega (arith, h.1, c.if-n-gt16.true))
-
-pub returns-then-out-ne-CONFIG_SIZE : goal.returns-then-out-ne-CONFIG_SIZE
-returns-then-out-ne-CONFIG_SIZE c =
-    not_listed _ _ _ (λ h. c.if-out-ne-CONFIG_SIZE.true h.2)
+    not_listed _ _ _
+    (λ h. elim c.then-n-eq0.branch [
+      | then-n-eq0-via-then-n-eq0 w ↦ omega (arith, h.0, w.if-n-eq0.true)
+      | then-n-eq0-via-else-n-eq0+then-n-gt16 w ↦ omega (arith, h.1, w.if-n-gt16.true)
+      | then-n-eq0-via-else-n-eq0+else-n-gt16+then-out-ne-CONFIG_SIZE w ↦ w.if-out-ne-CONFIG_SIZE.true h.2
+    ])
 
 pub returns-then-not-is_valid : goal.returns-then-not-is_valid
 returns-then-not-is_valid c =

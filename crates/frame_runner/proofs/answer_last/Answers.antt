@@ -7,6 +7,6 @@ pub returns-clause-out_after : goal.returns-clause-out_after
 returns-clause-out_after c =
     let a = c.args in
     let p = printed_last (take a.s.used a.table.now) (take a.s.len a.line.now) in
-    let x = c.finish-last in
+    let x = c.finish in
     let n : x.result.out ≡ length p = omega (arith, x.ensures.out_end) in
     rw (n, x.ensures.shown) (in_front_lem a.out.now p)

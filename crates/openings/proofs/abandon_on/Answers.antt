@@ -1,21 +1,18 @@
-use mathlib.Core.Path.{refl}
+use Rattle.std.proofs.Common.{refl}
 use Rattle.layout.proofs.Soundness.{sound_head}
 use Rattle.rules.specs.Calls.{abandon}
 use Rattle.rules.specs.Figures.{figures_of}
 use Rattle.rules.specs.After.{done}
-use Rattle.openings.proofs.Replies.{refused, plain_finished}
+use Rattle.rules.proofs.Outcomes.{refused_plain, plain_finished}
 use Rattle.openings.proofs.abandon_on.Goals as goal
 
-pub returns-then-number-ne-DONE : goal.returns-then-number-ne-DONE
-returns-then-number-ne-DONE c =
-    let s = c.requires in
-    refused _ s abandon refl c.idle_number-number.ensures c.if-number-ne-DONE.true c.plain.ensures
+pub returns-in_err-check_open_round : goal.returns-in_err-check_open_round
+returns-in_err-check_open_round c =
+    refused_plain _ c.requires abandon refl c.from_residual.result _ c.from_residual.ensures.1 c.in_err-check_open_round.ensures.value
 
-pub set_round-requires : goal.set_round-requires
-set_round-requires c = sound_head _ c.requires
+pub close_round-requires : goal.close_round-requires
+close_round-requires c = sound_head _ c.requires
 
 pub returns : goal.returns
 unfolding done figures_of
-returns c =
-    let s = c.requires in
-    plain_finished _ s abandon refl c.idle_number-number.ensures refl c.if-number-ne-DONE.false c.plain-2.ensures c.set_round.ensures
+returns c = plain_finished _ c.requires abandon refl c.in_ok-check_open_round.ensures.value refl c.close_round.ensures

@@ -31,4 +31,4 @@ returns c =
     let at = goal.at.returns c in
     let inside_it = sym (within_all at.After-four_within-4) ∙ not-false _ c.if-not-four_within.false-raw in
     rw (c.share_station.ensures, c.load_set-2.ensures, c.load_set.ensures)
-    (paired_is_valid c.args.n c.args.config.now c.requires.0 c.requires.1 c.requires.2 (paired at.Else-not-pairs_ok) inside_it)
+    (paired_is_valid c.args.n c.args.config.now c.requires.0 c.requires.1 c.told-config (paired at.Else-not-pairs_ok) inside_it)

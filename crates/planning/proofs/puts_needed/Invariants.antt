@@ -2,8 +2,8 @@ use Rattle.quorum.specs.Configurations.{holds_write}
 use Rattle.planning.proofs.Walking.{Position, NoneUpTo}
 use Rattle.planning.proofs.puts_needed.Given as goal
 
-abbrev pub invariant-loop-rest : goal.invariant-loop-rest
-invariant-loop-rest l = Position l.on l.puts l.rest l.written × NoneUpTo (holds_write l.config) l.on l.puts
-
-abbrev pub decreases-loop-rest : goal.decreases-loop-rest
-decreases-loop-rest l = l.rest
+abbrev pub invariant-loop-before : goal.invariant-loop-before
+invariant-loop-before l =
+    (goal.iterator-loop-before).can_next l.before-iterator
+    × Position l.fn.on l.before-iterator.count l.before-iterator.iter.0 l.written
+    × NoneUpTo (holds_write l.config) l.fn.on l.before-iterator.count

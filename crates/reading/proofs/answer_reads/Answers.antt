@@ -1,12 +1,11 @@
 use Rattle.std.proofs.Common.{refl, arith}
 use Rattle.feeding.specs.Buffers.{Fits}
-use Rattle.reading.specs.Between.{Stopped}
-use Rattle.reading.proofs.Progress.{reached_none, reached_more, done}
+use Rattle.reading.proofs.Progress.{reached_none, reached_more}
 use Rattle.reading.proofs.Known.{run_none, run_more}
 use Rattle.reading.proofs.answer_reads.Goals as goal
 
-pub loop-reads-init : goal.loop-reads-init
-loop-reads-init g c =
+pub loop-turn-init : goal.loop-turn-init
+loop-turn-init g c =
     let a = c.args in
     let fits : Fits a.table.now a.line.now a.out.now (record { at = 0; len = 0; used = 0; out = 0 }) =
     record {
@@ -18,24 +17,27 @@ loop-reads-init g c =
     } in
     record {
       ready = (fits, c.requires.2);
-      stopped = done (reached_none a.input.now a.table.now a.line.now _ refl refl refl) refl;
-      whole = λ _. refl;
-      so_far = λ _. run_none _ _ _ refl;
-      ended = λ h. absurd (omega arith);
+      reached = reached_none a.input.now a.table.now a.line.now _ refl refl refl;
+      so_far = run_none _ _ _ refl;
+      goes_on = λ h. absurd (omega arith);
     }
 
-pub loop-reads-preserved : goal.loop-reads-preserved
-loop-reads-preserved g c =
-    let l = c.loop-reads.invariant in
-    let answered = c.answer_read-s.ensures.answers_piece in
-    let before = l.stopped.reached (l.whole c.loop-reads-test.true) in
-    let now : Stopped _ _ _ _ =
-    record { reached = λ whole. reached_more _ _ _ _ _ _ _ _ before answered whole; or_dropped = answered.or_dropped }
-    in
+pub loop-turn-preserved : goal.loop-turn-preserved
+loop-turn-preserved g c =
+    let l = c.loop-turn.invariant in
+    let r = c.in_ok-s.ensures in
     record {
-      ready = c.answer_read-s.ensures.ready;
-      stopped = now;
-      whole = c.reads_left-reads.ensures.only_whole;
-      so_far = λ whole. run_more _ _ _ _ _ _ _ _ _ _ _ _ _ (l.so_far (l.whole c.loop-reads-test.true)) (c.answer_read-s.ensures.moved whole) answered whole;
-      ended = λ _ whole none room. (c.answer_read-s.ensures.moved whole).ended none room;
+      ready = r.ready;
+      reached = reached_more _ _ _ c.loop-turn.s _ _ _ c.in_ok-s.s l.reached r.answers_piece;
+      so_far = run_more _ _ _ _ _ _ _ _ _ c.loop-turn.s _ _ c.in_ok-s.s l.so_far r.moved r.answers_piece;
+      goes_on = λ _. c.if-s-eq0.false;
     }
+
+pub returns-then-s-eq0-clause-stopped : goal.returns-then-s-eq0-clause-stopped
+returns-then-s-eq0-clause-stopped g c =
+    reached_more _ _ _ c.loop-turn.s _ _ _ c.in_ok-s.s c.loop-turn.invariant.reached c.in_ok-s.ensures.answers_piece
+
+pub returns-then-s-eq0-clause-so_far : goal.returns-then-s-eq0-clause-so_far
+returns-then-s-eq0-clause-so_far g c =
+    let r = c.in_ok-s.ensures in
+    run_more _ _ _ _ _ _ _ _ _ c.loop-turn.s _ _ c.in_ok-s.s c.loop-turn.invariant.so_far r.moved r.answers_piece

@@ -1,8 +1,8 @@
-use mathlib.Core.Path.{◌≡◌, sym, ap, ◌∙◌}
+use mathlib.Core.Path.{◌≡◌, ap, ◌∙◌}
 use mathlib.Core.List.{[], ◌∷◌, ◌++◌}
 use native.Mathlib.Omega.{arith}
-use lib.ListN.{length, drop, length-set, length-drop}
-use lib.Seq.{take_all, length-take-le}
+use lib.ListN.{length, drop, length-drop}
+use lib.Seq.{take_all}
 use Rattle.basics.specs.Bytes.{over}
 use Rattle.frames.specs.Hex.{hex_of}
 use Rattle.replies.specs.ReplyLine.{reply_size, line_end, reply_line}
@@ -14,19 +14,6 @@ use Rattle.replies.proofs.write_reply.Goals.{After-bytes-1}
 -- the bytes of the reply, as they were made
 made : (c : After-bytes-1) → length c.reply_bytes-bytes.result ≡ reply_size
 made c = rw c.reply_bytes-bytes.ensures (reply_bytes_length _ _)
-
-pub slice_bounds-write_hex-end : goal.slice_bounds-write_hex-end
-slice_bounds-write_hex-end c =
-    let at = goal.at.slice_bounds-write_hex-end c in
-    let long = made at.After-bytes-1 in sym (length-take-le 2 c.reply_bytes-bytes.result (omega arith))
-
-pub write_hex-requires : goal.write_hex-requires
-write_hex-requires c =
-    let at = goal.at.write_hex-requires c in
-    let long = made at.After-bytes-1 in rw (length-take-le 2 c.reply_bytes-bytes.result (omega arith)) (omega arith)
-
-pub shape_of-out : goal.shape_of-out
-shape_of-out c = rw length-set (c.write_hex-2.auto.out ∙ c.write_hex.auto.out)
 
 pub returns : goal.returns
 unfolding reply_line

@@ -1,9 +1,9 @@
 use mathlib.Core.Path.{◌≡◌, ap, ◌∙◌}
 use mathlib.Core.Option.{Option}
-use native.Mathlib.Omega.{arith}
-use lib.ListN.{take, length-take}
+use lib.ListN.{take}
 use Rattle.basics.specs.Bytes.{over}
 use Rattle.rules.specs.Calls.{Call}
+use Rattle.dispatch.specs.Codes.{number_or}
 use Rattle.dispatch.specs.Dispatch.{call_at}
 use Rattle.frames.specs.Frame.{call_of}
 use Rattle.frames.proofs.Reading.{frame_call}
@@ -14,7 +14,7 @@ use Rattle.session.proofs.answer.Goals.{After-write_reply}
 
 -- up to the reply line: the code and the bytes stand for the line's call
 abbrev found : After-write_reply → Option Call
-found c = call_at c.read_frame-code.result c.read_frame-code.new.arguments
+found c = call_at (number_or c.read_frame-code.result) c.read_frame-code.new.arguments
 
 call_is : (c : After-write_reply) → found c ≡ call_of c.args.line.now
 call_is c =
@@ -22,9 +22,10 @@ call_is c =
     ap (λ code. call_at code read.new.arguments) read.ensures.value ∙ frame_call c.args.line.now read.new.arguments read.ensures.leads
 
 -- what was lent and performed
-facts : (c : After-write_reply) → Performed c.args.table.now c.args.used c.lent_length-lend.result (found c) c.perform-r.result c.perform-r.new.table
+facts : (c : After-write_reply)
+    → Performed c.args.table.now c.args.used c.lent_length-lend.result (found c) c.perform_frame-r.result c.perform_frame-r.new.table
 facts c =
-    let done = c.perform-r in
+    let done = c.perform_frame-r in
     record {
       whole = c.requires.0;
       used_fits = c.requires.1;
@@ -41,9 +42,6 @@ shown c =
     let a = c.args in
     shows_reply (take a.used a.table.now) a.line.now a.out.now _ a.at _ _ _ (call_is c)
     c.call_byte-call.ensures (its_reply _ _ _ _ _ (found c) (facts c)) c.write_reply.ensures
-
-pub slice_bounds-perform-end-2 : goal.slice_bounds-perform-end-2
-slice_bounds-perform-end-2 c = simp length-take (omega arith)
 
 pub returns-then-r-eq0 : goal.returns-then-r-eq0
 unfolding table_after

@@ -6,12 +6,12 @@ use Rattle.sets.proofs.place_figure.Goals as goal
 pub overflow_add-result : goal.overflow_add-result
 unfolding place_figure
 overflow_add-result c =
-    let small : c.in-At.k + 1 ≤ 8 = rw c.in-At.is at c.requires in omega arith
+    let small : c.in-Some.k + 1 ≤ 8 = rw c.in-Some.is at c.requires in omega arith
 
-pub returns-in-At : goal.returns-in-At
+pub returns-in-Some : goal.returns-in-Some
 unfolding place_figure
-returns-in-At c = rw c.in-At.is
+returns-in-Some c = rw c.in-Some.is
 
-pub returns-in-Nowhere : goal.returns-in-Nowhere
+pub returns-in-None : goal.returns-in-None
 unfolding place_figure
-returns-in-Nowhere c = rw c.in-Nowhere.is
+returns-in-None c = rw c.in-None.is

@@ -1,11 +1,10 @@
 use native.Mathlib.Omega.{arith}
-use mathlib.Core.Path.{◌≡◌, sym, ◌∙◌}
+use mathlib.Core.Path.{◌≡◌, refl, sym, ◌∙◌}
 use mathlib.Core.Bool.{true, false}
 use borrow.Author.Tests.{not-true, not-false}
 use Rattle.layout.specs.Layout.{table_length}
 use Rattle.soundness.specs.Scan.{size_sound, head_sound}
-use Rattle.soundness.proofs.Scan.{Size, size_facts, sound_parts, sound_change, sound_other}
-use borrow.Author.Rules.{rules}
+use Rattle.soundness.proofs.Scan.{Size, size_facts, sound_parts, sound_change, sound_other, is_change, is_no_change}
 use Rattle.soundness.proofs.is_sound.Goals as goal
 use Rattle.soundness.proofs.is_sound.Goals.{Else-not-head_ok, Else-not-size_ok}
 
@@ -37,19 +36,16 @@ pub kind-requires : goal.kind-requires
 unfolding table_length
 kind-requires c = let h = (size (goal.at.kind-requires c).Else-not-size_ok).long in omega arith
 
-pub rest_ok-requires : goal.rest_ok-requires
-rest_ok-requires c = (size_passed (goal.at.rest_ok-requires c).Else-not-size_ok, search rules)
-
-pub returns-then-kind-eq-CHANGE : goal.returns-then-kind-eq-CHANGE
-returns-then-kind-eq-CHANGE c =
-    let at = goal.at.returns-then-kind-eq-CHANGE c in
-    c.rest_ok.ensures ∙ sound_change _ (size_passed at.Else-not-size_ok) (head_passed at.Else-not-head_ok) (sym c.kind.ensures ∙ c.if-kind-eq-CHANGE.true)
-
-pub rest_ok-requires-2 : goal.rest_ok-requires-2
-rest_ok-requires-2 c = (size_passed (goal.at.rest_ok-requires-2 c).Else-not-size_ok, search rules)
+pub returns-then-eq : goal.returns-then-eq
+returns-then-eq c =
+    let at = goal.at.returns-then-eq c in
+    c.rest_ok.ensures
+    ∙ sound_change _ (size_passed at.Else-not-size_ok) (head_passed at.Else-not-head_ok)
+    (sym c.kind.ensures ∙ is_change _ c.kind.result refl refl (sym c.eq.ensures ∙ c.if-eq.true))
 
 pub returns : goal.returns
 returns c =
     let at = goal.at.returns c in
     c.rest_ok-2.ensures
-    ∙ sound_other _ (size_passed at.Else-not-size_ok) (head_passed at.Else-not-head_ok) (λ e. c.if-kind-eq-CHANGE.false (c.kind.ensures ∙ e))
+    ∙ sound_other _ (size_passed at.Else-not-size_ok) (head_passed at.Else-not-head_ok)
+    (λ e. is_no_change _ c.kind.result refl (sym c.eq.ensures ∙ c.if-eq.false) (c.kind.ensures ∙ e))

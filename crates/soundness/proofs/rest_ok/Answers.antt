@@ -1,12 +1,9 @@
 use native.Mathlib.Omega.{arith}
-use mathlib.Core.Path.{◌≡◌, sym, ◌∙◌}
-use mathlib.Core.Bool.{true, false}
+use mathlib.Core.Path.{◌≡◌}
 use Prim.Native.Nat.{◌*◌}
-use borrow.Author.Tests.{not-true, not-false}
 use Rattle.layout.specs.Layout.{table_length}
 use Rattle.layout.specs.Fields.{stations, items}
-use Rattle.soundness.proofs.Scan.{Size, size_facts, kind}
-use Rattle.soundness.specs.Scan.{round_blank}
+use Rattle.soundness.proofs.Scan.{Size, size_facts}
 use Rattle.soundness.proofs.rest_ok.Goals as goal
 use Rattle.soundness.proofs.rest_ok.Goals.{After-items, After-shared_slice_known-1}
 
@@ -22,12 +19,6 @@ copies c = cc
 pub round_ok-requires : goal.round_ok-requires
 unfolding table_length
 round_ok-requires c = let h = (size (goal.at.round_ok-requires c).After-shared_slice_known-1).long in omega arith
-
-pub returns-then-not-round_ok : goal.returns-then-not-round_ok
-returns-then-not-round_ok c =
-    let t = c.args.t.now in
-    let e : round_blank t (kind t) ≡ false = sym c.round_ok.ensures ∙ not-true _ c.if-not-round_ok.true-raw in
-    rw e
 
 pub stations-n-requires : goal.stations-n-requires
 unfolding table_length
@@ -55,9 +46,3 @@ all_valid-requires c =
     let e = copies at.After-items in
     let n = c.stations-n.ensures in
     (omega arith, omega arith, omega arith, omega arith, λ k l. omega arith)
-
-pub returns : goal.returns
-returns c =
-    let t = c.args.t.now in
-    let e : round_blank t (kind t) ≡ true = sym c.round_ok.ensures ∙ not-false _ c.if-not-round_ok.false-raw in
-    rw (e, ← c.stations-n.ensures, ← c.items.ensures) c.all_valid.ensures

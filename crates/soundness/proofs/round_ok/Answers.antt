@@ -1,27 +1,23 @@
-use native.Mathlib.Omega.{arith}
-use mathlib.Core.Path.{sym, ◌∙◌}
-use Prim.Native.Nat.{◌≤◌}
+use mathlib.Core.Path.{sym, ap, ◌∙◌}
 use Rattle.layout.specs.Soundness.{round_sound}
+use Rattle.table.specs.Kinds.{as_kind}
 use Rattle.soundness.specs.Scan.{round_blank}
-use Rattle.soundness.proofs.Scan.{other_kind, kind_word}
+use Rattle.soundness.proofs.Scan.{no_kind, kind_word}
 use Rattle.soundness.proofs.round_ok.Goals as goal
 
-pub returns-in-0 : goal.returns-in-0
+pub returns-in-None : goal.returns-in-None
 unfolding round_sound round_blank
-returns-in-0 c =
-    let none = c.in-0.is in
-    let t = c.args.t.now in
-    rw (← c.kind.ensures, none) (cc (kind_word t (sym c.kind.ensures ∙ none)))
+returns-in-None c =
+    rw (← c.kind.ensures, c.in-None.is) (cc (kind_word c.args.t.now (no_kind _ (sym c.kind.ensures ∙ ap as_kind c.in-None.is))))
 
-pub returns-in-1 : goal.returns-in-1
+pub returns-in-Some-Read : goal.returns-in-Some-Read
 unfolding round_sound round_blank
-returns-in-1 c = rw (← c.kind.ensures, c.in-1.is) (cc)
+returns-in-Some-Read c = rw (← c.kind.ensures, c.in-Some-Read.is) (cc)
 
-pub returns-in-2 : goal.returns-in-2
+pub returns-in-Some-Write : goal.returns-in-Some-Write
 unfolding round_sound round_blank
-returns-in-2 c = rw (← c.kind.ensures, c.in-2.is) (cc)
+returns-in-Some-Write c = rw (← c.kind.ensures, c.in-Some-Write.is) (cc)
 
-pub returns-in_default : goal.returns-in_default
+pub returns-in-Some-Change : goal.returns-in-Some-Change
 unfolding round_blank
-returns-in_default c = let h : 3 ≤ c.kind.result = omega arith in
-    rw (← c.kind.ensures, other_kind c.kind.result h) (cc)
+returns-in-Some-Change c = rw (← c.kind.ensures, c.in-Some-Change.is) (cc)

@@ -28,26 +28,19 @@ overflow_add-place c = let h = room (goal.at.overflow_add-place c).In-loop-k in 
 pub overflow_add-place-in-loop-k : goal.overflow_add-place-in-loop-k
 overflow_add-place-in-loop-k c = let h = room (goal.at.overflow_add-place-in-loop-k c).In-loop-k in search rules
 
-pub slice_bounds-config_ok-count : goal.slice_bounds-config_ok-count
-slice_bounds-config_ok-count c = let h = room (goal.at.slice_bounds-config_ok-count c).In-loop-k in search rules
-
 pub config_ok-requires : goal.config_ok-requires
 config_ok-requires c = let h = room (goal.at.config_ok-requires c).In-loop-k in search rules
 
 -- what the test of configuration k says
 tested : (c : After-config_ok) → let a = c.args in
     c.config_ok.result ≡ valid_at a.n a.bytes.now (a.at + a.stride * c.loop-k.k)
-tested c = rw (add-sub_cancel_left) at c.config_ok.ensures
+tested c =
+    let whole = rw c.unwrap-config.ensures at c.as_array.ensures.cases in rw (whole.same, add-sub_cancel_left) at c.config_ok.ensures
 
 pub returns-then-not-config_ok : goal.returns-then-not-config_ok
 returns-then-not-config_ok c =
     let at = goal.at.returns-then-not-config_ok c in
     one_fails _ _ _ _ _ c.loop-k.k c.loop-k-test.true (sym (tested at.After-config_ok) ∙ not-true _ c.if-not-config_ok.true-raw)
-
-pub past_same-k-requires : goal.past_same-k-requires
-past_same-k-requires c =
-    let l = c.loop-k-test.true in
-    (search rules, omega arith, c.requires.2, c.requires.3, c.requires.4)
 
 pub loop-k-smaller : goal.loop-k-smaller
 loop-k-smaller c = let l = c.loop-k-test.true in let g = c.past_same-k.ensures in omega arith

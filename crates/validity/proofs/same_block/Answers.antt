@@ -1,4 +1,3 @@
-use native.Mathlib.Omega.{arith}
 use borrow.Author.Rules.{rules}
 use mathlib.Core.Path.{sym}
 use Rattle.quorum.specs.Configurations.{config_size}
@@ -8,9 +7,6 @@ use Rattle.validity.proofs.same_block.Goals as goal
 
 pub loop-b-init : goal.loop-b-init
 loop-b-init c = (search rules, sym (all_start _))
-
-pub same_lane-ok-requires : goal.same_lane-ok-requires
-same_lane-ok-requires c = (search rules, λ j l. let h = c.requires.1 j l in omega arith)
 
 pub loop-b-preserved : goal.loop-b-preserved
 loop-b-preserved c = (search rules, all_turn _ _ c.loop-b.invariant.1 c.same_lane-ok.ensures)

@@ -16,18 +16,6 @@ room c = c.requires.1 c.loop-j.j (omega arith)
 pub loop-j-init : goal.loop-j-init
 loop-j-init c = (search rules, sym (all_start _))
 
-pub overflow_add-ok : goal.overflow_add-ok
-overflow_add-ok c = let h = room (goal.at.overflow_add-ok c).In-loop-j in search rules
-
-pub overflow_mul-ok : goal.overflow_mul-ok
-overflow_mul-ok c = let h = room (goal.at.overflow_mul-ok c).In-loop-j in search rules
-
-pub overflow_add-ok-in-loop-j : goal.overflow_add-ok-in-loop-j
-overflow_add-ok-in-loop-j c = let h = room (goal.at.overflow_add-ok-in-loop-j c).In-loop-j in search rules
-
-pub bounds-bytes-at : goal.bounds-bytes-at
-bounds-bytes-at c = let h = room (goal.at.bounds-bytes-at c).In-loop-j in search rules
-
 pub loop-j-preserved : goal.loop-j-preserved
 loop-j-preserved c = (search rules, all_turn _ _ c.loop-j.invariant.1 refl)
 

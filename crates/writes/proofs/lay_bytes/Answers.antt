@@ -19,9 +19,6 @@ unfolding table_length
 lay_first-requires c =
     (omega (arith, some (goal.at.lay_first-requires c).Start, c.lay_head.auto.t), c.requires.5)
 
-pub overflow_mul-n : goal.overflow_mul-n
-overflow_mul-n c = omega (arith, some (goal.at.overflow_mul-n c).Start)
-
 pub lay_rest-requires : goal.lay_rest-requires
 unfolding table_length
 lay_rest-requires c =

@@ -4,31 +4,25 @@ use Prim.Native.Nat.{◌+◌, ◌≤◌}
 use mathlib.Core.Path.{refl, ◌∙◌}
 use lib.ListN.{length}
 use Rattle.layout.specs.Layout.{copy_size}
-use Rattle.layout.proofs.Along.{left_done, left_past, left_falls, left_turn}
-use Rattle.table.proofs.ItemCopies.{copy_range, copy_fits}
+use Rattle.layout.proofs.Along.{left_done, left_past, left_turn}
+use Rattle.table.proofs.ItemCopies.{copy_fits}
 use Rattle.rounds.specs.Round.{as_round}
 use Rattle.writes.proofs.Writes.{puts_along, put_turn}
 use Rattle.writes.proofs.put_each.Goals as goal
 use Rattle.writes.proofs.put_each.Goals.{After-address-at}
 
-pub loop-rest-init : goal.loop-rest-init
-loop-rest-init c = (
+pub loop-s-init : goal.loop-s-init
+loop-s-init c = (
   refl,
   refl,
   record {
-    comes_to = rw c.united-rest.ensures (puts_along c.args.t.now c.args.n (as_round c.args.round) _ c.args.n);
-    small = search rules;
+    comes_to = rw (c.into_iter-s-iterator.ensures.into_iter_gives, c.united.ensures) (puts_along c.args.t.now c.args.n (as_round c.args.round) _ c.args.n);
+    small = rw c.into_iter-s-iterator.ensures.into_iter_gives (search rules);
   },
 )
 
-pub shape_of-t-then-n-s : goal.shape_of-t-then-n-s
-shape_of-t-then-n-s c = c.loop-rest.invariant.1
-
 pub returns-then-n-s : goal.returns-then-n-s
-returns-then-n-s c = left_past c.loop-rest.invariant.2 c.lowest-s.ensures c.if-n-s.true
-
-pub address-at-requires : goal.address-at-requires
-address-at-requires c = copy_range c.requires c.if-n-s.false
+returns-then-n-s c = left_past c.loop-s.invariant.2 c.in-Some.ensures.steps.1 c.if-n-s.true
 
 -- the copy of the turn's station is there
 fits : (c : After-address-at) → c.address-at.result + copy_size ≤ length c.args.t.now
@@ -36,29 +30,23 @@ fits c = copy_fits c.requires c.if-n-s.false c.address-at.ensures
 
 pub put_data_if-requires : goal.put_data_if-requires
 put_data_if-requires c =
-    omega (arith, fits (goal.at.put_data_if-requires c).After-address-at, c.loop-rest.invariant.1)
+    omega (arith, fits (goal.at.put_data_if-requires c).After-address-at, c.loop-s.invariant.1)
 
 pub put_config_if-requires : goal.put_config_if-requires
 put_config_if-requires c =
-    omega (arith, fits (goal.at.put_config_if-requires c).After-address-at, c.loop-rest.invariant.1, c.put_data_if.auto.t)
+    omega (arith, fits (goal.at.put_config_if-requires c).After-address-at, c.loop-s.invariant.1, c.put_data_if.auto.t)
 
-pub loop-rest-smaller : goal.loop-rest-smaller
-loop-rest-smaller c =
-    left_falls c.loop-rest.invariant.2 c.loop-rest-test.true c.without_lowest-rest.ensures
-
-pub loop-rest-preserved : goal.loop-rest-preserved
-loop-rest-preserved c =
-    let inv = c.loop-rest.invariant in
+pub loop-s-preserved : goal.loop-s-preserved
+loop-s-preserved c =
+    let inv = c.loop-s.invariant in
+    let step = c.in-Some.ensures.steps in
     let round = as_round c.args.round in
-    let put = put_turn _ round _ _ _ c.address-at.ensures c.is_member.ensures c.is_member-in-loop-rest.ensures inv.0
+    let put = put_turn _ round _ _ _ c.address-at.ensures c.is_member.ensures c.is_member-in-loop-s.ensures inv.0
     c.put_data_if.ensures c.put_config_if.ensures in (
       inv.0,
       c.put_config_if.auto.t ∙ c.put_data_if.auto.t ∙ inv.1,
-      left_turn inv.2 c.loop-rest-test.true c.without_lowest-rest.ensures c.lowest-s.ensures c.if-n-s.false put,
+      left_turn inv.2 step.0 step.2 step.1 c.if-n-s.false put,
     )
 
-pub shape_of-t : goal.shape_of-t
-shape_of-t c = c.loop-rest.invariant.1
-
 pub returns : goal.returns
-returns c = left_done c.loop-rest.invariant.2 c.loop-rest-test.false
+returns c = left_done c.loop-s.invariant.2 c.in-None.ensures.steps.0

@@ -8,11 +8,8 @@ use Rattle.writes.proofs.Writes.{put_station}
 use Rattle.writes.proofs.put_each.Given as goal
 
 -- At a turn the puts of the stations taken have taken effect, and those of the stations left are to come.
-abbrev pub invariant-loop-rest : goal.invariant-loop-rest
-invariant-loop-rest l =
+abbrev pub invariant-loop-s : goal.invariant-loop-s
+invariant-loop-s l =
     let new = new_copy l.version.0 l.value l.generation.0 l.round.target in
     (l.target ≡ l.round.target) × (length l.t ≡ length l.initial.t)
-    × Left (put_station l.n (as_round l.round) new) l.n (put_copies l.initial.t l.n (as_round l.round) new l.n) l.t l.rest
-
-abbrev pub decreases-loop-rest : goal.decreases-loop-rest
-decreases-loop-rest l = l.rest
+    × Left (put_station l.n (as_round l.round) new) l.n (put_copies l.initial.t l.n (as_round l.round) new l.n) l.t l.s-iterator.0

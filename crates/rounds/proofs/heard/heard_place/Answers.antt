@@ -1,14 +1,7 @@
-use mathlib.Core.Path.{sym}
+use mathlib.Core.Path.{sym, ◌∙◌}
 use Rattle.layout.proofs.OneWalk.{nobody_place}
-use Rattle.newest.proofs.Walks.{has_found, nobody_found}
+use Rattle.newest.proofs.Walks.{nobody_found}
 use Rattle.rounds.proofs.heard.heard_place.Goals as goal
 
-pub read_place-requires : goal.read_place-requires
-read_place-requires c =
-    (c.requires, has_found c.walk-found.ensures.walked c.in-Copies.is)
-
-pub returns-in_default : goal.returns-in_default
-returns-in_default c = sym (nobody_place _ _ _ (nobody_found c.walk-found.ensures.walked c.in_default.is))
-
-pub returns : goal.returns
-returns c = c.read_place.ensures
+pub returns-in_err-newest : goal.returns-in_err-newest
+returns-in_err-newest c = c.from_residual.ensures ∙ sym (nobody_place _ _ _ (nobody_found c.walk.ensures.walked c.in_err-newest.was))

@@ -1,18 +1,13 @@
+use mathlib.Core.Path.{◌≡◌, sym, ap, ◌∙◌}
+use lib.ListN.{length, replicate, length-replicate, length-take, length-drop, length-set}
 use native.Mathlib.Omega.{arith}
-use mathlib.Core.Path.{◌∙◌}
-use lib.ListN.{length-set}
+use Rattle.table.proofs.Lent.{over-part}
 use Rattle.basics.proofs.Writing.{over_pair}
-use borrow.Author.Rules.{rules}
 use Rattle.table.proofs.number.put_pair.Goals as goal
 
-pub bounds-t-at-2 : goal.bounds-t-at-2
-bounds-t-at-2 c = rw length-set (omega arith)
-
-pub put_zeros-requires : goal.put_zeros-requires
-put_zeros-requires c = rw (length-set, length-set) (omega arith)
-
-pub shape_of-t : goal.shape_of-t
-shape_of-t c = c.put_zeros.auto.t ∙ simp length-set
-
 pub returns : goal.returns
-returns c = c.put_zeros.ensures ∙ over_pair _ _ _ _ _ (search rules)
+returns c =
+    let n = c.args.zeros in
+    let long : length c.fill.new.self ≡ n = c.fill.ensures.len ∙ simp (length-take, length-drop, length-set) (omega arith) in
+    let same : c.fill.new.self ≡ replicate n 0 = c.fill.ensures.after (λ y e. e) ∙ ap (λ k. replicate k 0) (sym c.fill.ensures.len ∙ long) in
+    rw same (over-part _ _ n (replicate n 0) (length-replicate n 0) ∙ over_pair _ _ _ _ _ (omega arith))

@@ -1,4 +1,0 @@
-use Rattle.writes.proofs.put_data_if.Goals as goal
-
-pub returns-then-put : goal.returns-then-put
-returns-then-put c = rw c.if-put.true c.put_data.ensures
