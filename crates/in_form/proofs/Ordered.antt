@@ -10,7 +10,7 @@ use native.Mathlib.Omega.{arith}
 use lib.Dec.{ltb, eqb}
 use lib.Bits.{bit_and}
 use lib.ListN.{length, take, get_or, get_or-eq_default}
-use Rattle.std.specs.List.{fold, list_all}
+use Rattle.std.specs.List.{list_any, list_all}
 use Rattle.std.proofs.lemmas.List.Folds.{list_all_more}
 use Rattle.basics.specs.Tests.{all_below}
 use Rattle.sets.specs.Inner.{eight}
@@ -38,12 +38,14 @@ pub no : {A : Type 0} → (A → ⊥) → (false ≡ true) ↔ A
 no h = (λ e. absurd (false≢true e), λ a. absurd (h a))
 
 -- ---- the loops
--- a test on one, folded, does not hold exactly if the contrary holds of each
-pub none_of : (p : ℕ → Bool) (any : Bool) (xs : List ℕ) → not (fold (λ any x. any || p x) any xs) ≡ (not any && list_all (λ x. not (p x)) xs)
-none_of p true [] = refl
-none_of p false [] = refl
-none_of p true (x ∷ xs) = none_of p true xs
-none_of p false (x ∷ xs) = none_of p (p x) xs
+-- a test holds of none exactly if the contrary holds of each
+neither : (a b d : Bool) → not b ≡ d → not (a || b) ≡ (not a && d)
+neither true b d e = refl
+neither false b d e = e
+
+pub none_of : (p : ℕ → Bool) (xs : List ℕ) → not (list_any p xs) ≡ list_all (λ x. not (p x)) xs
+none_of p [] = refl
+none_of p (x ∷ xs) = neither (p x) _ _ (none_of p xs)
 
 -- the first sets of a list, each
 pub none_first : (sets : List ℕ) (set k : ℕ) → k ≤ length sets → none_within (take k sets) set ≡ all_below (λ j. not (holds set (get_or sets j 0))) k

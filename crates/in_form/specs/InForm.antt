@@ -1,11 +1,11 @@
 -- What the test of a side comes to; nobody has to believe it, since `is_form` is held to `standard_form`.
-use Rattle.std.specs.Prelude.{◌≡◌, Bool, false, not, ◌||◌, List, ℕ, ◌-◌, ◌≤◌, ◌<◌, eqb, bit_and, fold}
-use Rattle.std.specs.List.{list_all}
+use Rattle.std.specs.Prelude.{◌≡◌, Bool, false, not, List, ℕ, ◌-◌, ◌≤◌, ◌<◌, eqb, bit_and}
+use Rattle.std.specs.List.{list_any, list_all}
 use Rattle.quorum.specs.Sets.{holds}
 
 -- one of the sets of a list lies within the set; none does
 abbrev pub any_within : List ℕ → ℕ → Bool
-any_within others set = fold (λ any other. any || eqb (bit_and set other) other) false others
+any_within others set = list_any (λ other. eqb (bit_and set other) other) others
 
 abbrev pub none_within : List ℕ → ℕ → Bool
 none_within others set = list_all (λ other. not (eqb (bit_and set other) other)) others

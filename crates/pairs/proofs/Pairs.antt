@@ -13,10 +13,11 @@ use borrow.Author.Tests.{eq-eqb, ne_eqb, eqb-true, eqb-false, ltb-true, ltb-fals
 use Rattle.basics.specs.Tests.{all_below}
 use Rattle.quorum.specs.Sets.{member, used, holds, shares, within, minus, full}
 use Rattle.quorum.specs.Configurations.{set_at, read_set, write_set, valid, config_size}
-use Rattle.pairs.specs.Pairs.{filled, filled_side, pairs_ok, four, FourFit, outside_of, four_within}
+use Rattle.pairs.specs.Pairs.{filled, filled_side, row_ok, pairs_ok, four, FourFit, outside_of, four_within}
 use Rattle.quorum.specs.Promise.{Side, Valid}
 use Rattle.basics.proofs.Tests.{clash, fails, same_test, and_left, and_right, and_both, all-below, below_all, either}
 use Rattle.quorum.proofs.Promise.{promise}
+use Rattle.sets.proofs.Folds.{fold_all, fold_all_back}
 
 -- a configuration without the facts of a valid one fails the test
 pub invalid : (n : ℕ) (c : List ℕ) → (Valid n c → ⊥) → false ≡ valid n c
@@ -103,7 +104,10 @@ module _ (c : List ℕ) where
 
   by_places : pairs_ok c ≡ all_below (λ j. all_below (λ k. shares (get_or (filled_side (read_set c)) (7 - j) 0) (get_or (filled_side (write_set c)) k 0)) 8) 8
   unfolding filled_side all_below
-  by_places = refl
+  by_places =
+      let reads = filled_side (read_set c) in
+      let writes = filled_side (write_set c) in
+      sym (fold_all_back {f = row_ok writes} (λ read. fold_all {f = shares read} (λ x. refl) true writes) reads)
 
   pairs-all : pairs_ok c ≡ true → Pairs
   pairs-all e j k h l =

@@ -1,5 +1,6 @@
 -- How the code tests whether one configuration is valid. Not for the crates above: a reader needs `valid`, to which `config_ok` is proved equal.
-use Rattle.std.specs.Prelude.{Bool, true, cond, fold, reverse, ◌&&◌, List, [], ◌∷◌, ℕ, ◌+◌, ◌-◌, ◌*◌, ◌<◌, eqb}
+use Rattle.std.specs.List.{list_all}
+use Rattle.std.specs.Prelude.{Bool, cond, ◌&&◌, List, [], ◌∷◌, ℕ, ◌+◌, ◌-◌, ◌*◌, ◌<◌, eqb}
 use Rattle.std.specs.Int.Bits.{bit_or}
 use Rattle.quorum.specs.Sets.{shares, within, full}
 use Rattle.quorum.specs.Configurations.{set_at, read_set, write_set}
@@ -16,12 +17,12 @@ filled_side side =
     filled (side 0) (side 1) ∷ filled (side 1) (side 2) ∷ filled (side 2) (side 3) ∷ filled (side 3) (side 4)
     ∷ filled (side 4) (side 5) ∷ filled (side 5) (side 6) ∷ filled (side 6) (side 7) ∷ filled (side 7) 0 ∷ []
 
--- a read set with each of the write sets; each read set so, the last one first
+-- a read set shares a station with each of the write sets; each read set does
 abbrev pub row_ok : List ℕ → ℕ → Bool
-row_ok writes read = fold (λ ok write. ok && shares read write) true writes
+row_ok writes read = list_all (shares read) writes
 
 abbrev pub rows_ok : List ℕ → List ℕ → Bool
-rows_ok reads writes = fold (λ ok read. ok && row_ok writes read) true (reverse reads)
+rows_ok reads writes = list_all (row_ok writes) reads
 
 abbrev pub pairs_ok : List ℕ → Bool
 pairs_ok c = rows_ok (filled_side (read_set c)) (filled_side (write_set c))

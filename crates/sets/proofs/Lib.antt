@@ -1,3 +1,4 @@
+pub mod Folds
 mod Words
 pub mod Sides
 pub mod Rising

@@ -16,6 +16,7 @@ use Rattle.quorum.specs.declared.Side.{Side}
 use Rattle.quorum.specs.declared.Side.TheVariants.{Read, Write}
 use Rattle.quorum.proofs.Promise.{promise}
 use Rattle.sets.specs.Inner.{eight, is_held, any_held}
+use Rattle.sets.proofs.Folds.{fold_any}
 use Rattle.basics.proofs.Bytes.{number_two}
 use Rattle.basics.proofs.Tests.{clash, either, same_test, any_below_lem, below-any}
 
@@ -36,7 +37,7 @@ some_place p n =
 -- ---- a side by its list: one of its sets is held; and its sets as they are loaded
 pub side_held : (side : ℕ → ℕ) (set : ℕ) → any_held (eight side) set ≡ is_place (first_place (holds_place side set) 8)
 unfolding any_below holds_place
-side_held side set = sym (some_place (holds_place side set) 8)
+side_held side set = sym (some_place (holds_place side set) 8 ∙ fold_any (λ other. is_held other set) false (eight side))
 
 pub loaded : (side : Side) (c : List ℕ) {start : ℕ} → start ≡ side_start side
     → set_at c start ∷ set_at c (start + 1) ∷ set_at c (start + 2) ∷ set_at c (start + 3) ∷ set_at c (start + 4) ∷ set_at c (start + 5)

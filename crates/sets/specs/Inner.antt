@@ -1,6 +1,7 @@
 -- What inner functions of the code are held to: the sets of a side as a list, and whether they are held.
 -- Not for the crates above: a reader needs `first_read` and the like, to which the public functions are proved equal.
-use Rattle.std.specs.Prelude.{Bool, false, ◌&&◌, ◌||◌, List, [], ◌∷◌, ℕ, fold}
+use Rattle.std.specs.Prelude.{Bool, ◌&&◌, List, [], ◌∷◌, ℕ}
+use Rattle.std.specs.List.{list_any}
 use Rattle.quorum.specs.Sets.{used, holds}
 
 -- the sets of a side
@@ -12,4 +13,4 @@ abbrev pub is_held : ℕ → ℕ → Bool
 is_held other set = used other && holds set other
 
 abbrev pub any_held : List ℕ → ℕ → Bool
-any_held others set = fold (λ any other. any || is_held other set) false others
+any_held others set = list_any (λ other. is_held other set) others

@@ -1,4 +1,4 @@
-// The head of the table: where its fields stand, each field as a number, and what the calls write there.
+// The head of the table: where its fields stand, what each of them has, and what the calls write there.
 ghost use Rattle.std.specs.Prelude.{◌≡◌, ◌≤◌, length, is_some, unwrap_or};
 ghost use Rattle.basics.specs.Bytes.{number};
 ghost use Rattle.layout.specs.Layout.{head_size, kind_at, listed, lay_length};
