@@ -3,7 +3,6 @@ ghost use Rattle.std.specs.Prelude.{◌≡◌, ◌++◌, drop, replicate, take};
 ghost use Rattle.std.specs.Int.{to_le_bytes, w64};
 
 use crate::bytes::store;
-use std::alloc::{AllocError, Global};
 
 // How many bytes the one space has.
 const SPACE: usize = 30520;
@@ -46,13 +45,13 @@ impl Config {
 // Room for the bytes that are kept, and how many were kept last. Each copy stands at the start of the room, over the earlier ones.
 #[derive(Drop)]
 pub struct Kept {
-    room: Vec<u8>,
+    room: [u8; SPACE],
     length: usize,
 }
 
 impl Kept {
     fn copy(&mut self, table: &[u8]) {
-        if let Some(start) = self.room.as_mut_slice().get_mut(..table.len()) {
+        if let Some(start) = self.room.get_mut(..table.len()) {
             start.copy_from_slice(table);
         }
     }
@@ -66,23 +65,23 @@ impl Kept {
 // The one space, how many of its bytes are lent as the table, the configuration, and what is kept.
 #[derive(Drop)]
 pub struct Lent {
-    pub space: Vec<u8>,
+    pub space: [u8; SPACE],
     pub length: usize,
     pub config: Config,
     pub kept: Kept,
 }
 
 impl Lent {
-    pub fn new(alloc: Global) -> Result<Lent, AllocError> {
-        Ok(Lent {
-            space: vec![in alloc; 7; SPACE]?,
+    pub fn new() -> Lent {
+        Lent {
+            space: [7; SPACE],
             length: 0,
             config: Config::of(0, 0, 0),
             kept: Kept {
-                room: vec![in alloc; 0; SPACE]?,
+                room: [0; SPACE],
                 length: 0,
             },
-        })
+        }
     }
 
     // Keeps the table. While the space or the configuration has too few bytes, nothing is copied, and the number alone is kept.

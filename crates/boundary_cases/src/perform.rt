@@ -34,7 +34,7 @@ fn act<W: Write>(
     what: Result<Act, UnknownWord>,
     shown: bool,
 ) -> io::Result<()> {
-    let Some(table) = lent.space.as_mut_slice().get_mut(..lent.length) else {
+    let Some(table) = lent.space.get_mut(..lent.length) else {
         return Ok(());
     };
     let Some(config) = lent.config.lent() else {

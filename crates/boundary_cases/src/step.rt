@@ -3,7 +3,7 @@ ghost use Rattle.std.specs.Prelude.{◌≡◌, ◌+◌, ◌-◌, ◌*◌, ◌^�
 
 use crate::call::Call;
 use crate::rows::{Damaged, Laid};
-use std::alloc::{AllocError, Global};
+use arrayvec::ArrayVec;
 
 // What a step does on the table that is lent.
 #[derive(Clone, Copy)]
@@ -31,10 +31,10 @@ pub enum Step {
 #[derive(Debug, Drop)]
 pub struct UnknownWord;
 
-// A step as it is written: its letters and its three numbers.
+// A step as it is written: its word, which is the last eight letters, and its three numbers.
 #[derive(Drop)]
 pub struct Written {
-    letters: Vec<u8>,
+    word: ArrayVec<u8, 8>,
     numbers: [u64; 3],
 }
 
@@ -73,19 +73,24 @@ fn numbers(text: &[u8]) -> [u64; 3] {
     [first, second, third]
 }
 
-impl Written {
-    pub fn read(alloc: Global, text: &[u8]) -> Result<Written, AllocError> {
-        let letters = text.iter().copied().filter(|b| is_letter(*b));
-        Ok(Written {
-            letters: letters.collect(alloc)?,
-            numbers: numbers(text),
-        })
+// The last eight letters.
+fn word(text: &[u8]) -> ArrayVec<u8, 8> {
+    let mut word = ArrayVec::<u8, 8>::new();
+    for letter in text.iter().copied().filter(|b| is_letter(*b)) {
+        if word.is_full() {
+            word.remove(0);
+        }
+        word.push(letter);
     }
+    word
+}
 
-    // The word is the last eight letters.
-    fn word(&self) -> &[u8] {
-        let start = self.letters.len().saturating_sub(8);
-        &self.letters[start..]
+impl Written {
+    pub fn read(text: &[u8]) -> Written {
+        Written {
+            word: word(text),
+            numbers: numbers(text),
+        }
     }
 }
 
@@ -94,7 +99,7 @@ impl TryFrom<&Written> for Call {
 
     fn try_from(written: &Written) -> Result<Call, UnknownWord> {
         let [a, b, c] = written.numbers;
-        Ok(match written.word() {
+        Ok(match written.word.as_slice() {
             b"lay" => Call::Lay {
                 n: a,
                 m: b,
@@ -135,7 +140,7 @@ impl TryFrom<&Written> for Act {
                 value: c,
             })
         };
-        Ok(match written.word() {
+        Ok(match written.word.as_slice() {
             b"byte" => Act::Byte { at: a, value: b },
             b"number" => Act::Number { at: a, value: b },
             b"same" => Act::Same,
@@ -153,7 +158,7 @@ impl TryFrom<&Written> for Step {
 
     fn try_from(written: &Written) -> Result<Step, UnknownWord> {
         let [a, b, _] = written.numbers;
-        Ok(match written.word() {
+        Ok(match written.word.as_slice() {
             b"lend" => Step::Lend { length: a },
             b"pairs" => Step::Pairs { length: a },
             b"sets" => Step::Sets { read: a, write: b },

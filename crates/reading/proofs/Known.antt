@@ -1,5 +1,5 @@
 -- Known bytes, moved one piece after the other.
-use Rattle.std.proofs.Common.{◌≡◌, Option, Some, None, IfSome}
+use Rattle.std.proofs.Common.{◌≡◌, true, Option, Some, None, Result, Ok, Err, OnOk, is_ok, IfSome}
 use Rattle.std.proofs.Common.{List, [], ◌++◌, ℕ, ◌+◌, ◌-◌, ◌≤◌, length, take, sym, ap, ◌∙◌, append-nil, arith}
 use lib.Seq.{take-add}
 use Rattle.std.specs.Io.KnownBytes.{Appends, IsAtEnd}
@@ -38,6 +38,11 @@ printed_more h piece table line out s table' line' out' r t z so_far =
 pub written_none : (a : Option (List ℕ)) (h : InHand) → Appends a a (printed_by h [])
 unfolding printed_by
 written_none a h = Appends-nil a
+
+-- what was sent is there
+pub sent : {E P : Type 0} (r : Result Unit E) → OnOk r P → is_ok r ≡ true → P
+sent (Err e) h ok = cc
+sent (Ok x) h ok = h
 
 pub written_more : (a b c : Option (List ℕ)) (h : InHand) (piece table line out : List ℕ) (s : Fed) (table' line' out' : List ℕ) (r : Fed)
     → Takes piece table line out s table' line' out' r → s.out ≡ 0 → UpTo h piece table line s

@@ -2,7 +2,7 @@
 -- table and line are carried from piece to piece (`AnswersPiece`), and that from read to read they are such as the definition has (`AfterInput`), while
 -- nothing fails; what the program reads and prints is tested.
 -- `AfterRead` has the lengths in use of the table (`used`) and of the line so far (`len`), and how many bytes the last read gave (`read`). Where a read
--- or a write fails there are none.
+-- or a write fails, `Failed` has those of table and read, and there is no line.
 use Rattle.std.specs.Prelude.{◌≡◌, Option, Result, IfOk, List, ◌++◌, ℕ, ◌≤◌, ◌<◌, length, take}
 use Rattle.std.specs.Io.KnownBytes.{Appends, Consumes, IsAtEnd}
 use Rattle.replies.specs.ReplyLine.{reply_line_size}
@@ -11,6 +11,7 @@ use Rattle.layout.specs.Layout.{largest}
 use Rattle.feeding.specs.Buffers.{in_hand, Fits}
 use Rattle.feeding.specs.declared.Fed.{Fed}
 use Rattle.reading.specs.declared.AfterRead.{AfterRead}
+use Rattle.reading.specs.declared.Failed.{Failed}
 
 -- where the feeding of a piece begins: at its first byte, with an empty output
 abbrev pub begin : AfterRead → Fed
@@ -19,6 +20,10 @@ begin s = record { at = 0; len = s.len; used = s.used; out = 0 }
 -- the buffers fit, and the output has room for a reply line
 abbrev pub Ready : List ℕ → List ℕ → List ℕ → AfterRead → Type 0
 Ready table line out s = Fits table line out (begin s) × (reply_line_size ≤ length out)
+
+-- what is in hand after a failure: no line
+abbrev pub dropped : Failed → AfterRead
+dropped failed = record { used = failed.used; len = 0; read = failed.read }
 
 -- the sizes of the buffers, which at the start hold no table and no line
 abbrev pub RightSizes : List ℕ → List ℕ → List ℕ → Type 0

@@ -1,11 +1,11 @@
 // A reader, as standard input, read piece by piece and answered to a writer.
 #![tactic(auto)]
 
-ghost use Rattle.std.specs.Prelude.{◌≡◌, ◌<◌, IfOk, OnOk, length, take};
+ghost use Rattle.std.specs.Prelude.{◌≡◌, ◌<◌, IfOk, OnOk, MatchResult, length, take};
 ghost use Rattle.std.specs.Io.KnownBytes.{Appends, IsAtEnd};
 ghost use Rattle.runs.specs.Pieces.{printed_by};
 ghost use Rattle.feeding.specs.Buffers.{in_hand};
-ghost use Rattle.reading.specs.Between.{RightSizes, Ready, AnswersPiece, Stopped, Moved, RunSoFar};
+ghost use Rattle.reading.specs.Between.{RightSizes, Ready, dropped, AnswersPiece, Stopped, Moved, RunSoFar};
 
 use feeding::{Fed, feed};
 use std::io;
@@ -17,6 +17,22 @@ pub struct AfterRead {
     pub used: usize,
     pub len: usize,
     pub read: usize,
+}
+
+// A read or a write failed: why, the length in use of the table then, and how many bytes the last read gave. No line is in hand.
+#[derive(Debug, Drop)]
+pub struct Failed {
+    pub error: io::Error,
+    pub used: usize,
+    pub read: usize,
+}
+
+impl From<Failed> for io::Error {
+    ghost from_gives = { λ failed error. error ≡ failed.error };
+
+    fn from(failed: Failed) -> io::Error {
+        failed.error
+    }
 }
 
 // Writes all of the text and flushes the writer.
@@ -36,12 +52,13 @@ fn answer_piece<W: Write>(
     line: &mut [u8],
     out: &mut [u8],
     s: AfterRead,
-) -> io::Result<AfterRead>
+) -> Result<AfterRead, Failed>
     requires { Ready table.old line.old out.old s }
     ensures answers_piece { IfOk result (AnswersPiece piece.now table.old line.old s table.new line.new) }
     ensures written { OnOk result (Appends (W.contents to.old) (W.contents to.new)
         (printed_by (in_hand table.old s.used line.old s.len) piece.now)) }
-    ensures ready { IfOk result (λ r. Ready table.new line.new out.new r × (r.read ≡ length piece.now)) }
+    ensures ready { MatchResult result (λ r. Ready table.new line.new out.new r × (r.read ≡ length piece.now))
+        (λ failed. Ready table.new line.new out.new (dropped failed)) }
 {
     let mut fed = Fed {
         at: 0,
@@ -51,7 +68,11 @@ fn answer_piece<W: Write>(
     };
     while fed.at < piece.len() {
         let r = feed(piece, table, line, out, fed);
-        send(to, &out[..r.out])?;
+        send(to, &out[..r.out]).map_err(|error| Failed {
+            error,
+            used: r.used,
+            read: piece.len(),
+        })?;
         fed = Fed { out: 0, ..r };
     }
     Ok(AfterRead {
@@ -70,16 +91,22 @@ fn answer_read<R: Read, W: Write>(
     line: &mut [u8],
     out: &mut [u8],
     s: AfterRead,
-) -> io::Result<AfterRead>
+) -> Result<AfterRead, Failed>
     requires { Ready table.old line.old out.old s }
     ensures answers_piece { IfOk result (λ r. AnswersPiece (take r.read input.new) table.old line.old s
         table.new line.new r) }
     ensures moved { IfOk result (λ r. Moved (R.remaining from.old) (R.remaining from.new)
         (W.contents to.old) (W.contents to.new) (in_hand table.old s.used line.old s.len)
         input.new r.read) }
-    ensures ready { IfOk result (Ready table.new line.new out.new) }
+    ensures ready { MatchResult result (Ready table.new line.new out.new)
+        (λ failed. Ready table.new line.new out.new (dropped failed)) }
 {
-    let n = from.read(input)?;
+    let failed = |error| Failed {
+        error,
+        used: s.used,
+        read: 0,
+    };
+    let n = from.read(input).map_err(failed)?;
     answer_piece(to, &input[..n], table, line, out, s)
 }
 
@@ -91,14 +118,15 @@ pub fn answer_reads<R: Read, W: Write>(
     table: &mut [u8],
     line: &mut [u8],
     out: &mut [u8],
-) -> io::Result<AfterRead>
+) -> Result<AfterRead, Failed>
     requires { RightSizes table.old line.old out.old }
     ensures stopped { Stopped input.new table.new line.new result }
     ensures so_far { IfOk result (λ s. RunSoFar (R.remaining from.old) (R.remaining from.new)
         (W.contents to.old) (W.contents to.new) (in_hand table.new s.used line.new s.len)) }
     ensures ended { IfOk result (λ s. s.read ≡ 0 → 0 < length input.new → IsAtEnd (R.remaining from.new)) }
     ensures sizes { RightSizes table.new line.new out.new }
-    ensures ready { IfOk result (Ready table.new line.new out.new) }
+    ensures ready { MatchResult result (Ready table.new line.new out.new)
+        (λ failed. Ready table.new line.new out.new (dropped failed)) }
 {
     let mut s = AfterRead {
         used: 0,

@@ -3,16 +3,17 @@ ghost use Rattle.std.specs.Prelude.{◌≡◌, true, ◌≤◌, length};
 ghost use Rattle.layout.specs.Layout.{head_size};
 ghost use Rattle.layout.specs.Rounds.{with_poll, with_put, with_link};
 ghost use Rattle.layout.specs.Fields.{round_of};
-ghost use Rattle.rounds.specs.Round.{as_round, is_data};
+ghost use Rattle.rounds.specs.Round.{round_in, as_round, is_data};
 
-use layout::{Kind, Sort, TARGET_AT};
+use layout::{Sort, TARGET_AT};
 use quorum::CONFIG_SIZE;
 use table::head;
 use table::number::config_bytes_at;
 
+// The kind is the table's byte: a round is read of any bytes long enough, and in those that are no sound table it may be above that of each `Kind`.
 #[derive(Clone, Copy)]
 pub struct Round {
-    pub kind: Option<Kind>,
+    pub kind: u8,
     pub item: usize,
     pub polled: u16,
     pub data_puts: u16,
@@ -25,10 +26,11 @@ impl Round {
     // The round of the table.
     pub fn of(t: &[u8]) -> Round
         requires { head_size ≤ length t.now }
-        ensures { as_round result ≡ round_of t.now }
+        ensures value { result ≡ round_in t.now }
+        ensures round { as_round result ≡ round_of t.now }
     {
         Round {
-            kind: head::kind(t),
+            kind: head::kind_byte(t),
             item: head::item(t),
             polled: head::polled(t),
             data_puts: head::data_puts(t),

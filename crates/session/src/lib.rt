@@ -10,7 +10,7 @@ ghost use Rattle.runs.specs.Session.{table_after, printed};
 ghost use Rattle.layout.specs.Layout.{largest};
 ghost use Rattle.session.specs.Buffer.{InUse, lent_length};
 
-use dispatch::{Code, perform_frame};
+use dispatch::{Code, perform};
 use frames::frame::{MOST_ARGUMENTS, call_byte, read_frame};
 use replies::write_reply;
 use table::head::lay_length;
@@ -30,6 +30,16 @@ fn lent_length(code: Option<Code>, arguments: &[u8; MOST_ARGUMENTS], used: usize
     }
 }
 
+// The byte of a code; 00, which stands for no call, where there is none.
+fn code_byte(code: Option<Code>) -> u8
+    ensures { result ≡ number_or code }
+{
+    match code {
+        Some(code) => code.number(),
+        None => 0,
+    }
+}
+
 // Answers one line, without its end, on the table in the first `used` bytes of the buffer: the reply line goes to a place of
 // the output, and the length of the table in use after it is returned.
 pub fn answer(line: &[u8], table: &mut [u8], used: usize, out: &mut [u8], at: usize) -> usize
@@ -41,7 +51,7 @@ pub fn answer(line: &[u8], table: &mut [u8], used: usize, out: &mut [u8], at: us
     let mut arguments = [0u8; MOST_ARGUMENTS];
     let code = read_frame(line, call, &mut arguments);
     let lend = lent_length(code, &arguments, used);
-    let r = perform_frame(&mut table[..lend], code, &arguments);
+    let r = perform(&mut table[..lend], code_byte(code), &arguments);
     write_reply(call, r, out, at);
     if r.number == 0 {
         return lend;

@@ -3,7 +3,10 @@ use mathlib.Core.Path.{◌≡◌, refl, ap, ◌∙◌}
 use mathlib.Core.Bool.{Bool, true, false, ◌&&◌, ◌||◌}
 use mathlib.Core.List.{List, [], ◌∷◌, reverse, reverse_aux}
 use Prim.Native.Nat.{ℕ}
-use Rattle.std.specs.List.{fold, list_any, list_all}
+use native.Mathlib.Omega.{arith}
+use Rattle.std.specs.Prelude.{is_some}
+use Rattle.std.specs.List.{fold, list_any, list_all, position}
+use Rattle.std.proofs.lemmas.Bool.Decides.{nat_tests}
 
 pub fold_any : (p : ℕ → Bool) (any : Bool) (xs : List ℕ) → fold (λ any x. any || p x) any xs ≡ (any || list_any p xs)
 fold_any p true [] = refl
@@ -35,3 +38,12 @@ and_true false = refl
 
 pub fold_all_back : {f g : ℕ → Bool} → ((x : ℕ) → g x ≡ f x) → (xs : List ℕ) → fold (λ ok x. ok && g x) true (reverse xs) ≡ list_all f xs
 fold_all_back {f = f} same xs = fold_all same true (reverse xs) ∙ all_onto f xs [] ∙ and_true (list_all f xs)
+
+-- one passes exactly if there is a first that does
+pub any_first : (p : ℕ → Bool) (xs : List ℕ) → list_any p xs ≡ is_some (position p xs)
+any_first p [] = refl
+any_first p (x ∷ xs) = go (p x) refl (any_first p xs)
+  where
+    go : (t : Bool) → p x ≡ t → list_any p xs ≡ is_some (position p xs) → list_any p (x ∷ xs) ≡ is_some (position p (x ∷ xs))
+    go true e rest = rw e (grind (arith, nat_tests))
+    go false e rest = rw e (rest ∙ grind (arith, nat_tests))

@@ -16,7 +16,6 @@ use Rattle.quorum.specs.declared.Side.{Side}
 use Rattle.quorum.specs.declared.Side.TheVariants.{Read, Write}
 use Rattle.quorum.proofs.Promise.{promise}
 use Rattle.sets.specs.Inner.{eight, is_held, any_held}
-use Rattle.sets.proofs.Folds.{fold_any}
 use Rattle.basics.proofs.Bytes.{number_two}
 use Rattle.basics.proofs.Tests.{clash, either, same_test, any_below_lem, below-any}
 
@@ -34,11 +33,7 @@ some_place p n =
     (λ e. let s = any_below_lem p n e in
     either (is_place place) (λ t. t) (λ t. clash s.2 ((promise.first_nowhere p n).0 ((promise.no_place place).0 t) s.0 s.1)))
 
--- ---- a side by its list: one of its sets is held; and its sets as they are loaded
-pub side_held : (side : ℕ → ℕ) (set : ℕ) → any_held (eight side) set ≡ is_place (first_place (holds_place side set) 8)
-unfolding any_below holds_place
-side_held side set = sym (some_place (holds_place side set) 8 ∙ fold_any (λ other. is_held other set) false (eight side))
-
+-- ---- the sets of a side as they are loaded
 pub loaded : (side : Side) (c : List ℕ) {start : ℕ} → start ≡ side_start side
     → set_at c start ∷ set_at c (start + 1) ∷ set_at c (start + 2) ∷ set_at c (start + 3) ∷ set_at c (start + 4) ∷ set_at c (start + 5)
     ∷ set_at c (start + 6) ∷ set_at c (start + 7) ∷ []
@@ -80,6 +75,9 @@ module _ (side : ℕ → ℕ) (set : ℕ) where
       (λ e. let l = ltb-true n 8 e in
       rw e (sym ((promise.first_exactly _ 8 n).1 (l, sym (tested n l) ∙ passes_at_first test (eight side) 0 l, λ j h. out_before j (omega arith) h))))
       (λ e. let l = ltb-false n 8 e in rw e (sym ((promise.first_nowhere _ 8).1 (λ k h. out_before k h (omega arith)))))
+
+pub side_held : (side : ℕ → ℕ) (set : ℕ) → any_held (eight side) set ≡ is_place (first_place (holds_place side set) 8)
+side_held side set = rw (first_at side set)
 
 -- ---- a side by its name
 pub side_holds : (side : Side) (c : List ℕ) (set : ℕ) → any_held (eight (side_sets side c)) set ≡ holds_side side c set

@@ -1,12 +1,12 @@
 // Station sets and configurations: the tests on them, each equal to its definition in `quorum` on any input.
 #![tactic(auto)]
 
-ghost use Rattle.std.specs.Prelude.{◌≡◌, ◌<◌, ◌≤◌, position};
+ghost use Rattle.std.specs.Prelude.{◌≡◌, ◌<◌, ◌≤◌};
 ghost use Rattle.std.specs.Iterator.{item_count};
 ghost use Rattle.quorum.specs.Sets.{rising, member, shares, within, join, unite, minus, remove, lowest, full};
 ghost use Rattle.quorum.specs.Configurations.{set_at, side_sets, first_read, place_figure, holds_side};
 ghost use Rattle.sets.specs.Walking.{TakesLowest};
-ghost use Rattle.sets.specs.Inner.{eight, is_held, any_held};
+ghost use Rattle.sets.specs.Inner.{eight, is_held, first_held, any_held};
 
 use quorum::{CONFIG_SIZE, SIDE_SIZE, Side};
 
@@ -156,7 +156,7 @@ fn any_held(others: [u16; SIDE_SIZE], set: u16) -> bool
 
 // The first place of a side whose set is used and held by the set.
 fn first_held(others: [u16; SIDE_SIZE], set: u16) -> Option<usize>
-    ensures { result ≡ position (λ other. is_held other set) others }
+    ensures { result ≡ first_held others set }
 {
     others.iter().position(|other| is_held(*other, set))
 }

@@ -149,8 +149,8 @@ pub fn set_puts(t: &mut [u8], data_puts: u16, config_puts: u16)
     put_u16(t, CONFIG_PUTS_AT, config_puts)
 }
 
-// Writes the bytes of a round with nothing polled and no puts.
-fn set_round(t: &mut [u8], kind: u8, item: u8, value: u64, target: [u8; CONFIG_SIZE])
+// Writes the bytes of a round with nothing polled and no puts, whatever byte its kind is.
+pub fn set_round(t: &mut [u8], kind: u8, item: u8, value: u64, target: [u8; CONFIG_SIZE])
     requires { head_size ≤ length t.old }
     ensures { t.new ≡ set_round t.old kind item value target }
 {

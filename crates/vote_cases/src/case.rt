@@ -1,5 +1,5 @@
 // A case of votes, as its line gives it.
-ghost use Rattle.std.specs.Prelude.{length, IfOk, Ok, OnOk};
+ghost use Rattle.std.specs.Prelude.{◌≤◌, length, IfOk, Ok, OnOk};
 ghost use Rattle.std.specs.List.{AllWithin};
 ghost use Rattle.std.specs.Char.{IsAsciiDigit};
 
@@ -8,7 +8,7 @@ use std::num::ParseIntError;
 use std::str::{FromStr, Utf8Error};
 
 // The longest output of a case.
-const LONGEST: usize = 40;
+pub const LONGEST: usize = 40;
 
 // The thresholds, the length of the output and the votes.
 #[derive(Drop)]
@@ -17,6 +17,7 @@ pub struct Case {
     pub write: u64,
     pub length: usize,
     pub votes: ArrayVec<u8, 20>,
+    ghost fits: { length ≤ 40 },
 }
 
 // Why a case cannot be run.

@@ -18,6 +18,7 @@ use std::io;
 use whole_input::{LIMIT, read_whole};
 
 fn main(rt: HostRuntime) -> io::Result<()> {
-    let input = read_whole(rt.alloc(), &mut rt.stdin(), LIMIT)?;
-    script::run(rt.alloc(), &mut rt.stdout(), &input)
+    let mut room = [0; LIMIT];
+    let input = read_whole(&mut rt.stdin(), &mut room)?;
+    script::run(&mut rt.stdout(), input)
 }

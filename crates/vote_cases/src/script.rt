@@ -1,8 +1,7 @@
 // The script, line by line.
-use crate::case::Case;
+use crate::case::{Case, LONGEST};
 use case_text::{Pairs, Shown, split_once};
 use ospreyscreen::ospreyscreen_votes;
-use std::alloc::Global;
 use std::io;
 use std::io::Write;
 
@@ -10,23 +9,24 @@ use std::io::Write;
 const UNFIT: u64 = 99;
 
 // Makes the call, and prints its reply and the output.
-fn call<W: Write>(alloc: Global, to: &mut W, case: &Case) -> io::Result<()> {
-    let mut out = vec![in alloc; 0xAA; case.length]?;
-    let reply = ospreyscreen_votes(case.votes.as_slice(), case.read, case.write, &mut out);
-    write!(to, "{}{}", Shown(reply), Pairs(&out))
+fn call<W: Write>(to: &mut W, case: &Case) -> io::Result<()> {
+    let mut room = [0xAA; LONGEST];
+    let out = &mut room[..case.length];
+    let reply = ospreyscreen_votes(case.votes.as_slice(), case.read, case.write, out);
+    write!(to, "{}{}", Shown(reply), Pairs(out))
 }
 
 // Runs a line's case, behind its name.
-fn perform<W: Write>(alloc: Global, to: &mut W, text: &[u8]) -> io::Result<()> {
+fn perform<W: Write>(to: &mut W, text: &[u8]) -> io::Result<()> {
     match Case::try_from(text) {
-        Ok(case) => call(alloc, to, &case)?,
+        Ok(case) => call(to, &case)?,
         Err(_) => write!(to, "{UNFIT}")?,
     }
     to.write_all(b"\n")
 }
 
 // Runs the script. A heading is printed as it is. Of a case the name is printed, and it is run if its line has an end.
-pub fn run<W: Write>(alloc: Global, to: &mut W, script: &[u8]) -> io::Result<()> {
+pub fn run<W: Write>(to: &mut W, script: &[u8]) -> io::Result<()> {
     for line in script.split_inclusive(|b| *b == b'\n') {
         let Some((name, case)) = split_once(line, b'|') else {
             to.write_all(line)?;
@@ -34,7 +34,7 @@ pub fn run<W: Write>(alloc: Global, to: &mut W, script: &[u8]) -> io::Result<()>
         };
         to.write_all(name)?;
         if let Some(case) = case.strip_suffix(b"\n") {
-            perform(alloc, to, case)?;
+            perform(to, case)?;
         }
     }
     Ok(())

@@ -1,10 +1,9 @@
 // Input that is read whole, as the programs of cases read their scripts.
 #![tactic(auto)]
 
-ghost use Rattle.std.specs.Prelude.{◌<◌, ◌≤◌, IfOk, length, take, vec_len};
+ghost use Rattle.std.specs.Prelude.{◌<◌, ◌≤◌, IfOk, length, take};
 ghost use Rattle.std.specs.Io.KnownBytes.{Consumes, IsAtEnd};
 
-use std::alloc::Global;
 use std::io;
 use std::io::Read;
 
@@ -28,31 +27,31 @@ pub fn read_full<R: Read>(from: &mut R, buf: &mut [u8]) -> io::Result<usize>
     Ok(done)
 }
 
-// Reads the input to its end, or its first bytes up to the limit.
-pub fn read_whole<R: Read>(alloc: Global, from: &mut R, limit: usize) -> io::Result<Vec<u8>>
-    ensures room { IfOk result (λ v. vec_len v ≤ limit) }
-    ensures taken { IfOk result (λ v. Consumes (R.remaining from.old) (R.remaining from.new) v.items) }
-    ensures ended { IfOk result (λ v. vec_len v < limit → IsAtEnd (R.remaining from.new)) }
+// Reads the input to its end, or as much of it as the room holds, and hands on what was read.
+pub fn read_whole<'a, R: Read>(from: &mut R, room: &'a mut [u8]) -> io::Result<&'a [u8]>
+    ensures room { IfOk result (λ read. length read.now ≤ length room.old) }
+    ensures taken { IfOk result (λ read. Consumes (R.remaining from.old) (R.remaining from.new) read.now) }
+    ensures ended { IfOk result (λ read. length read.now < length room.old → IsAtEnd (R.remaining from.new)) }
 {
-    let mut input = vec![in alloc; 0; limit]?;
-    let n = read_full(from, &mut input)?;
-    input.truncate(n);
-    Ok(input)
+    let n = read_full(from, room)?;
+    Ok(&room[..n])
 }
 
 #[cfg(test)]
 mod tests {
     use super::*;
 
-    // That memory is there, of which no clause speaks.
+    // That a room is filled and no more, of which the clauses speak, by a reader of bytes.
     #[test]
-    fn reads_whole_input_and_up_to_the_limit(rt: HostRuntime) -> io::Result<()> {
+    fn reads_whole_input_and_up_to_the_room(rt: HostRuntime) -> io::Result<()> {
+        let mut room = [0; 100];
         let mut input: &[u8] = b"tomatoes";
-        let whole = read_whole(rt.alloc(), &mut input, 100)?;
-        assert_eq!(rt; whole.as_slice(), b"tomatoes".as_slice());
+        let whole = read_whole(&mut input, &mut room)?;
+        assert_eq!(rt; whole, b"tomatoes".as_slice());
+        let mut room = [0; 6];
         let mut input: &[u8] = b"tomatoes";
-        let cut = read_whole(rt.alloc(), &mut input, 6)?;
-        assert_eq!(rt; cut.as_slice(), b"tomato".as_slice());
+        let cut = read_whole(&mut input, &mut room)?;
+        assert_eq!(rt; cut, b"tomato".as_slice());
         Ok(())
     }
 }

@@ -21,7 +21,7 @@ pub finish-requires : goal.finish-requires
 unfolding view
 finish-requires c =
     let s = c.requires in
-    rw (c.stations.ensures, ap (λ r. r.item) c.«of».ensures) (items_in_table _ s _ (is_sound_lem _ s).item)
+    rw (c.stations.ensures, ap (λ r. r.item) c.«of».ensures.round) (items_in_table _ s _ (is_sound_lem _ s).item)
 
 pub returns : goal.returns
-returns c = commit_finished _ c.in_ok-figures.ensures c.stations.ensures c.«of».ensures c.finish.ensures
+returns c = commit_finished _ c.in_ok-figures.ensures c.stations.ensures c.«of».ensures.round c.finish.ensures

@@ -22,7 +22,7 @@ comes_on c = ap is_off (sym (rw c.in-On.is at c.in_ok-listed.ensures.link))
 pub returns-in-Off : goal.returns-in-Off
 unfolding done figures_of view
 returns-in-Off c =
-    let left = c.drop-left.ensures ∙ ap (λ r. with_link r c.args.station true) c.of-round.ensures in
+    let left = c.drop-left.ensures ∙ ap (λ r. with_link r c.args.station true) c.of-round.ensures.round in
     plain_finished _ c.requires (link _ _) refl c.in_ok-listed.ensures.value refl
     (c.set_puts.ensures ∙ rw (
       c.set_off.ensures,
@@ -40,8 +40,8 @@ returns-in-On c =
     (c.set_puts-in-On.ensures ∙ rw (
       c.set_off-in-On.ensures,
       c.without_station.ensures,
-      ap (λ r. r.data_puts) c.of-round.ensures,
-      ap (λ r. r.config_puts) c.of-round.ensures,
+      ap (λ r. r.data_puts) c.of-round.ensures.round,
+      ap (λ r. r.config_puts) c.of-round.ensures.round,
       c.off_set-off.ensures,
       comes_on (goal.at.returns-in-On c).In-On,
     ))

@@ -14,7 +14,7 @@ use Rattle.calls.proofs.poll_on.Goals as goal
 use Rattle.calls.proofs.poll_on.Goals.{After-poll-round}
 
 round : (c : After-poll-round) → as_round c.poll-round.result ≡ with_poll (round_of c.args.t.now) c.args.station
-round c = c.poll-round.ensures ∙ ap (λ r. with_poll r c.args.station) c.«of».ensures
+round c = c.poll-round.ensures ∙ ap (λ r. with_poll r c.args.station) c.«of».ensures.round
 
 pub returns-in_err-check_poll : goal.returns-in_err-check_poll
 returns-in_err-check_poll c =

@@ -24,5 +24,5 @@ pub returns : goal.returns
 unfolding done figures_of view
 returns c =
     let sort = data_put c.in_ok-listed.listed c.in_ok-listed.ensures.sort in
-    let round = c.put-round.ensures ∙ (λ j. with_put (c.«of».ensures j) c.args.station (sort j)) in
+    let round = c.put-round.ensures ∙ (λ j. with_put (c.«of».ensures.round j) c.args.station (sort j)) in
     plain_finished _ c.requires (put _ _) refl c.in_ok-listed.ensures.value refl (c.set_puts.ensures ∙ ap (puts_of _) round)

@@ -2,7 +2,8 @@ use Rattle.std.proofs.Common.{◌≤◌, length, refl, arith}
 use Rattle.replies.specs.ReplyLine.{reply_line_size}
 use Rattle.reading.specs.Between.{begin}
 use Rattle.reading.proofs.Progress.{forward, up_to_none, up_to_more, fits_at}
-use Rattle.reading.proofs.Known.{written_none, written_more}
+use Rattle.std.proofs.lemmas.Grind.{common_steps}
+use Rattle.reading.proofs.Known.{sent, written_none, written_more}
 use Rattle.reading.proofs.answer_piece.Goals as goal
 
 pub loop-fed-init : goal.loop-fed-init
@@ -25,5 +26,5 @@ loop-fed-preserved g c =
       fits = fits_at _ takes.fits;
       empty = refl;
       so_far = up_to_more _ _ _ _ _ _ _ _ _ takes _ l.so_far;
-      written = written_more _ _ _ _ _ _ _ _ _ _ _ _ _ takes l.empty l.so_far l.written c.in_ok-send.ensures;
+      written = written_more _ _ _ _ _ _ _ _ _ _ _ _ _ takes l.empty l.so_far l.written (sent c.send.result c.send.ensures (grind (arith, common_steps, c.map_err.ensures.variant, c.in_ok-map_err.was)));
     }

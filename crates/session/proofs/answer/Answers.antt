@@ -4,7 +4,7 @@ use lib.ListN.{take}
 use Rattle.basics.specs.Bytes.{over}
 use Rattle.rules.specs.Calls.{Call}
 use Rattle.dispatch.specs.Codes.{number_or}
-use Rattle.dispatch.specs.Dispatch.{call_at}
+use Rattle.dispatch.specs.Dispatch.{call_at, reply_or, after_or}
 use Rattle.frames.specs.Frame.{call_of}
 use Rattle.frames.proofs.Reading.{frame_call}
 use Rattle.runs.specs.Session.{table_after, printed}
@@ -23,16 +23,18 @@ call_is c =
 
 -- what was lent and performed
 facts : (c : After-write_reply)
-    → Performed c.args.table.now c.args.used c.lent_length-lend.result (found c) c.perform_frame-r.result c.perform_frame-r.new.table
+    → Performed c.args.table.now c.args.used c.lent_length-lend.result (found c) c.perform-r.result c.perform-r.new.table
 facts c =
-    let done = c.perform_frame-r in
+    let done = c.perform-r in
+    let lent = take c.lent_length-lend.result c.args.table.now in
+    let read = c.read_frame-code.new.arguments in
     record {
       whole = c.requires.0;
       used_fits = c.requires.1;
       lend_fits = c.lent_length-lend.ensures.upper_bound;
       is_lent = c.lent_length-lend.ensures.value;
-      replies = done.ensures.value;
-      leaves = done.ensures.table_after;
+      replies = done.ensures.value ∙ ap (λ code. reply_or lent (call_at code read)) c.code_byte.ensures;
+      leaves = done.ensures.table_after ∙ ap (λ code. after_or lent (call_at code read)) c.code_byte.ensures;
       same_length = done.auto.table;
     }
 
