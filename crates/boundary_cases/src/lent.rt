@@ -5,7 +5,7 @@ ghost use Rattle.std.specs.Int.{to_le_bytes, w64};
 use crate::bytes::store;
 
 // How many bytes the one space has.
-const SPACE: usize = 30520;
+pub const SPACE: usize = 30520;
 
 // The bytes of a configuration and one zero byte more, and how many of them are lent.
 #[derive(Clone, Copy)]
@@ -45,8 +45,8 @@ impl Config {
 // Room for the bytes that are kept, and how many were kept last. Each copy stands at the start of the room, over the earlier ones.
 #[derive(Drop)]
 pub struct Kept {
-    room: [u8; SPACE],
-    length: usize,
+    pub room: [u8; SPACE],
+    pub length: usize,
 }
 
 impl Kept {
@@ -72,18 +72,6 @@ pub struct Lent {
 }
 
 impl Lent {
-    pub fn new() -> Lent {
-        Lent {
-            space: [7; SPACE],
-            length: 0,
-            config: Config::of(0, 0, 0),
-            kept: Kept {
-                room: [0; SPACE],
-                length: 0,
-            },
-        }
-    }
-
     // Keeps the table. While the space or the configuration has too few bytes, nothing is copied, and the number alone is kept.
     pub fn keep(&mut self) {
         if self.config.lent().is_some()

@@ -1,5 +1,5 @@
 // The script, line by line.
-use crate::lent::Lent;
+use crate::lent::{Config, Kept, Lent, SPACE};
 use crate::perform::perform;
 use crate::step::{Step, Written};
 use case_text::split_once;
@@ -29,7 +29,15 @@ fn case<W: Write>(to: &mut W, lent: &mut Lent, name: &[u8], text: &[u8]) -> io::
 
 // Does what the script says. A heading is printed as it is, and an empty line is not.
 pub fn run<W: Write>(to: &mut W, script: &[u8]) -> io::Result<()> {
-    let mut lent = Lent::new();
+    let mut lent = Lent {
+        space: [7; SPACE],
+        length: 0,
+        config: Config::of(0, 0, 0),
+        kept: Kept {
+            room: [0; SPACE],
+            length: 0,
+        },
+    };
     for line in script.split_inclusive(|b| *b == b'\n') {
         match split_once(line, b'|') {
             Some((name, text)) => case(to, &mut lent, name, text)?,

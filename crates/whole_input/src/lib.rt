@@ -41,9 +41,9 @@ pub fn read_whole<'a, R: Read>(from: &mut R, room: &'a mut [u8]) -> io::Result<&
 mod tests {
     use super::*;
 
-    // That a room is filled and no more, of which the clauses speak, by a reader of bytes.
+    // That a reader of bytes is read to its end, and no further than the room goes.
     #[test]
-    fn reads_whole_input_and_up_to_the_room(rt: HostRuntime) -> io::Result<()> {
+    fn reads_whole_input_and_up_to_the_limit(rt: HostRuntime) -> io::Result<()> {
         let mut room = [0; 100];
         let mut input: &[u8] = b"tomatoes";
         let whole = read_whole(&mut input, &mut room)?;
