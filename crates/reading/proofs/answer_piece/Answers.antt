@@ -22,9 +22,10 @@ pub loop-fed-preserved : goal.loop-fed-preserved
 loop-fed-preserved g c =
     let takes = c.feed-r.ensures.takes in
     let l = c.loop-fed.invariant in
+    let went = sent c.send.result c.send.ensures (grind (arith, common_steps, c.map_err.ensures.variant, c.in_ok-map_err.was)) in
     record {
       fits = fits_at _ takes.fits;
       empty = refl;
       so_far = up_to_more _ _ _ _ _ _ _ _ _ takes _ l.so_far;
-      written = written_more _ _ _ _ _ _ _ _ _ _ _ _ _ takes l.empty l.so_far l.written (sent c.send.result c.send.ensures (grind (arith, common_steps, c.map_err.ensures.variant, c.in_ok-map_err.was)));
+      written = written_more _ _ _ _ _ _ _ _ _ _ _ _ _ takes l.empty l.so_far l.written went;
     }
